@@ -1,7 +1,7 @@
--- The law of what the threads of a process share, but for its globals (ResultLaw.antt) and its keys (Calls.antt): who owns a mutex and the count of
--- a semaphore change by the events that say so (XSH pthread_mutex_lock, pthread_mutex_unlock, pthread_cond_wait, sem_wait, sem_post); atexit
--- and pthread_atfork register what they name, unless they fail, and nothing else is registered; exit begins by its event, and calls each
--- function once for each time that it was registered (XSH atexit, pthread_atfork, exit).
+-- The law of what the threads of a process share, but for the globals (ResultLaw.antt) and the keys (Calls.antt): the owner of a mutex and the
+-- count of a semaphore change by the events that say so alone (XSH pthread_mutex_lock, pthread_mutex_unlock, pthread_cond_wait, sem_wait,
+-- sem_post); atexit and pthread_atfork register what they name, unless they fail, and no other step registers anything; exit begins by its
+-- event alone, and takes the newest exit function away as it calls it (XSH atexit, pthread_atfork, exit).
 use Rattle.std.specs.Prelude.{◌≡◌, ℕ, suc, ◌-◌, ◌%◌, List, [], ◌∷◌, ◌++◌, Option, Some, slice_index, slice_set}
 use Rattle.pct_model.specs.declared.event.What.{What}
 use Rattle.pct_model.specs.declared.event.What.TheVariants as what
@@ -13,7 +13,7 @@ use Rattle.pct_model.specs.declared.state.Status.{Status}
 use Rattle.pct_model.specs.declared.state.Status.TheVariants as status
 use Rattle.pct_model.specs.declared.statement.Stmt.TheVariants as statement
 use Rattle.pct_model.specs.NextStatement.{NextStatement, StatementIn, next_of}
-use Rattle.pct_model.specs.World.{SharedState, Thread}
+use Rattle.pct_model.specs.World.{SharedState}
 use Rattle.pct_laws.specs.AfterAll.{after_all}
 use Rattle.pct_laws.specs.ThreadSteps.{ThreadStep, EachStep}
 
@@ -43,7 +43,8 @@ exit_value_after _ value = value
 
 -- ---- what a step registers
 
--- the function that a thread with this status and this next statement registers with atexit in a step with these events. A failure has an event
+-- the function that a thread with this status and this next statement registers with atexit, in a step with these events: a call that fails
+-- has an event
 abbrev pub new_exits : List What → Status → NextStatement → List ℕ
 new_exits [] status.Running (StatementIn frame (statement.AtExit result f)) = f ∷ []
 new_exits events s next = []
@@ -55,7 +56,7 @@ new_fork_handlers events s next = []
 
 -- ---- the law
 
--- what a step of thread tid with these events makes of the state that its process shares; `before` is the thread before the step
+-- what a step with these events, of thread tid with this status and this next statement, makes of the state that its process shares
 pub record ChangesShared (tid : ℕ) (events : List What) (s : Status) (next : NextStatement) (before after : SharedState) : Type 0 where
   pub owners : after.owners ≡ after_all (owners_after tid) events before.owners
   pub counts : after.counts ≡ after_all counts_after events before.counts
@@ -63,7 +64,7 @@ pub record ChangesShared (tid : ℕ) (events : List What) (s : Status) (next : N
   pub exit_functions : after.exit_functions ≡ after_all exits_after events (new_exits events s next ++ before.exit_functions)
   pub fork_handlers : after.fork_handlers ≡ before.fork_handlers ++ new_fork_handlers events s next
   pub exit_value : after.exit_value ≡ after_all exit_value_after events before.exit_value
-  -- a process is made restricted, or never is
+  -- a process is restricted as it is made, or never
   pub restricted : after.restricted ≡ before.restricted
 
 -- the law of the shared state, of the run of a schedule

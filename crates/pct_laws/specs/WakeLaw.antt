@@ -1,9 +1,10 @@
 -- The law of wake-ups, and of what a step leaves of other threads: a signal, and one that is handed on, unblocks a thread that waits on its
--- condition variable, and a broadcast each that does; what is unblocked goes for the mutex of its own wait, and no other thread is unblocked
--- (the standard allows spurious wakeups: a choice of this host). A thread waits by pthread_cond_wait alone, and leaves its wait with its
--- mutex; one that a signal unblocked, and that acts upon a request, hands the signal on if another thread waits (XSH pthread_cond_wait,
--- pthread_cond_signal, pthread_cond_broadcast). And a step changes nothing of another thread but what its events say of that thread.
-use Rattle.std.specs.Prelude.{◌≡◌, ◌≢◌, ℕ, if◌then◌else◌, Bool, true, false, not, ◌&&◌, ◌||◌, List, [], ◌∷◌, count_by, nat_eq, slice_get, Some, IsSomeAnd}
+-- condition variable, and a broadcast each that does; each goes for the mutex of its own wait, and no other thread is unblocked (the standard
+-- allows spurious wakeups: a choice of this host). A thread waits by pthread_cond_wait alone, and leaves its wait with its mutex; one that a
+-- signal unblocked, and that acts upon a request, hands the signal on if another thread waits (XSH pthread_cond_wait, pthread_cond_signal,
+-- pthread_cond_broadcast). A step changes nothing of another thread but what its events say.
+use Rattle.std.specs.Prelude.{◌≡◌, ◌≢◌, ℕ, if◌then◌else◌, Bool, true, false, not, ◌&&◌, ◌||◌, List, ◌∷◌, count_by, nat_eq, slice_get}
+use Rattle.std.specs.Prelude.{Some, IsSomeAnd}
 use Rattle.std.specs.List.{list_all, list_any}
 use Rattle.pct_model.specs.declared.event.What.{What}
 use Rattle.pct_model.specs.declared.event.What.TheVariants as what
@@ -93,9 +94,10 @@ pub record KeepsOther (events : List What) (tid : ℕ) (before after : Thread) :
   -- all else stays: its functions with their locals, its cleanup handlers, its cancelability state and type, how its end began
   pub rest : after ≡ record before { status = after.status; pending = after.pending; detached = after.detached; joined = after.joined; specific = after.specific }
 
--- so it is of each other thread that the process inherited
+-- so it is of each other thread that the process inherited: it is there after the step
 abbrev pub KeepsOthers : ThreadStep → Type 0
-KeepsOthers s = (tid : ℕ) (t : Thread) → tid ≢ s.tid → thread_with tid s.process ≡ Some t → t.gone ≡ false → IsSomeAnd (thread_with tid s.process_after) (KeepsOther s.events tid t)
+KeepsOthers s =
+    (tid : ℕ) (t : Thread) → tid ≢ s.tid → thread_with tid s.process ≡ Some t → t.gone ≡ false → IsSomeAnd (thread_with tid s.process_after) (KeepsOther s.events tid t)
 
 -- ---- the thread that makes the step
 
@@ -106,7 +108,7 @@ is_in_wait c m (status.Reacquire cond mutex cause.Canceled) = false
 is_in_wait c m (status.Reacquire cond mutex why) = nat_eq cond c && nat_eq mutex m
 is_in_wait c m _ = false
 
--- a thread that was in a wait leaves it by these events: it was unblocked, or acted upon a request, and acquires its mutex
+-- a thread with this status is in no wait, or it was unblocked or acted upon a request, and acquires its mutex by these events
 abbrev pub has_its_mutex : Status → List What → Bool
 has_its_mutex (status.Waiting c m) events = false
 has_its_mutex (status.Reacquire c m why) events = list_any (acquires m) events

@@ -1,7 +1,8 @@
 -- The law of wake-ups: made steps that keep it, and made steps that do not. Each step that does not differs from one that does in one thing,
 -- and has the name of the sentence that it breaks.
-use Rattle.pct_names.proofs.Names.{[], ap, arith, Bool, Cause, cond_wait_point, Disable, false, Frame, List, new_frame, new_thread, NextStatement}
-use Rattle.pct_names.proofs.Names.{None, Process, refl, Running, State, StatementIn, Status, Stmt, sym, Thread, true, What, ℕ, ◌∷◌, ◌≡◌, ◌≢◌}
+use Rattle.pct_names.proofs.Names.{[], ap, arith, Bool, Cause, cond_wait_point, Disable, false, Frame, List, new_frame, new_thread}
+use Rattle.pct_names.proofs.Names.{NextStatement, None, Process, refl, Running, State, StatementIn, Status, Stmt, sym, Thread, true, What}
+use Rattle.pct_names.proofs.Names.{ℕ, ◌∷◌, ◌≡◌, ◌≢◌}
 use Rattle.std.proofs.lemmas.Bool.{true≢false}
 use Rattle.pct_model.specs.declared.event.What.TheVariants as what
 use Rattle.pct_model.specs.declared.state.Cause.TheVariants as cause

@@ -1,20 +1,22 @@
 -- A signal is handed on exactly by a thread that it unblocked, as this thread acts upon a request, if another one waits.
-use Rattle.pct_names.proofs.Names.{◌&&◌, ◌++◌, ◌<◌, [], acts, Some, acts_on_request, acts_or, Alt, and_parts, ap, Bool, body_at, choices_at, cond, Config, count_by, Entry, false, false≢true, go_if, hand_on_or_act, hands_on as machine_hands_on, is_deliverable, is_free_mutex, inl, inr}
-use Rattle.pct_names.proofs.Names.{leaves_wait, length, List, list_any, map, nat_eq, next_of, NextStatement, NoStatement, not, offers, or_cases, Others, others_of, Process, reacquires, refl, Run, run, same_choice, Script, SharedState, StatementIn, Status, Stmt, subst, sym}
-use Rattle.pct_names.proofs.Names.{Thread, Transition, transition_at, transition_by, true, Waiter, waiters_among, by_slot, What, World, zero, suc, arith, ℕ, ◌∙◌, ◌∷◌, ◌≡◌, ◌||◌, is_waiting_on}
-use Rattle.std.proofs.Common.{eqb-true, true≢false, ne_eqb, eq-eqb}
+use Rattle.pct_names.proofs.Names.{◌&&◌, ◌++◌, ◌<◌, [], acts, acts_on_request, acts_or, Alt, ap, body_at, Bool, by_slot, choices_at, cond}
+use Rattle.pct_names.proofs.Names.{Config, Entry, false, false≢true, go_if, hand_on_or_act, hands_on as machine_hands_on, is_deliverable}
+use Rattle.pct_names.proofs.Names.{is_free_mutex, leaves_wait, List, list_any, map, nat_eq, next_of, NextStatement, NoStatement, not}
+use Rattle.pct_names.proofs.Names.{offers, Others, others_of, Process, reacquires, refl, Run, run, Script, SharedState, Some, StatementIn}
+use Rattle.pct_names.proofs.Names.{Status, Stmt, subst, sym, Thread, Transition, transition_at, true, Waiter, waiters_among, What, World}
+use Rattle.pct_names.proofs.Names.{◌||◌, ℕ, ◌∙◌, ◌∷◌, ◌≡◌}
+use Rattle.std.proofs.Math.Bool.{or-false}
 use Rattle.pct_model.specs.declared.schedule.Alt.TheVariants as alt
 use Rattle.pct_model.specs.declared.event.What.TheVariants as what
-use Rattle.std.proofs.Math.Bool.{or-false}
 use Rattle.pct_model.specs.declared.transition.NamedAction.TheVariants as named_action
 use Rattle.pct_model.specs.declared.transition.OwnAction.TheVariants as own_action
 use Rattle.pct_model.specs.declared.state.Cause.TheVariants as cause
 use Rattle.pct_model.specs.declared.state.Status.TheVariants as status
 use Rattle.pct_model.specs.declared.statement.Stmt.TheVariants as statement
-use Rattle.pct_laws.specs.StatementLaw.{agree, waits_on}
+use Rattle.pct_laws.specs.StatementLaw.{agree}
 use Rattle.pct_laws.specs.WaitStages.{cancels_wait}
-use Rattle.pct_laws.specs.WakeLaw.{hands_on, hands_its_signal_on, is_waiter, owes_signal, waits_with_id}
-use Rattle.pct_transition_cases.proofs.TransitionCases.{TransitionCase, canceled_in_wait, canceled_after_wait, signal_handed_on, fork_handler_called}
+use Rattle.pct_laws.specs.WakeLaw.{hands_on, hands_its_signal_on, owes_signal, waits_with_id}
+use Rattle.pct_transition_cases.proofs.TransitionCases.{TransitionCase, canceled_after_wait, signal_handed_on, fork_handler_called}
 use Rattle.pct_thread_invariants.proofs.lift.EveryProcess.{moves_of_run}
 use Rattle.pct_thread_invariants.proofs.lift.HandlerEvents.{of_each_phase}
 use Rattle.pct_thread_invariants.proofs.lift.MovedThreads.{EveryStep, step_of, case_of_step, every_step}

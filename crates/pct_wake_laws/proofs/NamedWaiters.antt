@@ -1,13 +1,15 @@
 -- A signal, one that is handed on, and a broadcast name those that wait: of signals and broadcasts by the law of statements.
-use Rattle.pct_names.proofs.Names.{◌&&◌, ◌||◌, ◌<◌, [], and_from, and_parts, ap, body_at, Bool, by_slot, cond, Config, count_by, Entry, false, list_all, List, list_any, length, nat_eq, next_of, NextStatement, not, Others, others_of}
-use Rattle.pct_names.proofs.Names.{Process, refl, Run, run, Script, SharedState, Some, Status, Stmt, subst, sym, Thread, Transition, transition_by, true, Waiter, waiters_among, What, ℕ, ◌∙◌, ◌∷◌, ◌≡◌}
+use Rattle.pct_names.proofs.Names.{◌&&◌, [], and_from, and_parts, ap, Bool, cond, Config, count_by, Entry, false, length, List, list_all}
+use Rattle.pct_names.proofs.Names.{list_any, nat_eq, NextStatement, not, Others, Process, refl, Run, run, Script, SharedState, Some, Status}
+use Rattle.pct_names.proofs.Names.{Stmt, subst, sym, Thread, Transition, true, Waiter, What, ◌||◌, ℕ, ◌∙◌, ◌∷◌, ◌≡◌}
 use Rattle.std.proofs.Common.{true≢false}
 use Rattle.pct_model.specs.declared.event.What.TheVariants as what
 use Rattle.pct_laws.specs.CancelLaw.{is_running, acts_or_stops}
 use Rattle.pct_laws.specs.StatementLaw.{asked_at, says_statement, unblocks, waits_on}
 use Rattle.pct_laws.specs.ThreadSteps.{ThreadStep}
-use Rattle.pct_laws.specs.WakeLaw.{is_waiter, names_waiters, waits_with_id}
-use Rattle.pct_transition_cases.proofs.TransitionCases.{TransitionCase, signal_handed_on, signal_sent, signal_lost, broadcast_sent, fork_handler_called}
+use Rattle.pct_laws.specs.WakeLaw.{names_waiters, waits_with_id}
+use Rattle.pct_transition_cases.proofs.TransitionCases.{TransitionCase, signal_handed_on, signal_sent, signal_lost, broadcast_sent}
+use Rattle.pct_transition_cases.proofs.TransitionCases.{fork_handler_called}
 use Rattle.pct_thread_invariants.proofs.lift.EveryProcess.{moves_of_run}
 use Rattle.pct_thread_invariants.proofs.lift.HandlerEvents.{of_each_phase}
 use Rattle.pct_thread_invariants.proofs.lift.MovedThreads.{EveryStep, step_of, case_of_step, every_step}

@@ -1,26 +1,28 @@
 -- What a step leaves of another thread of its process: it is unblocked by a signal or a broadcast, and changed by a request, a detach, a join and
 -- the deletion of a key.
-use Rattle.pct_names.proofs.Names.{◌&&◌, ◌||◌, [], and_from, and_left, and_parts, ap, Bool, Cause, cond, Config, Entry, eqb-false, false, false≢true, find, holds_slot}
-use Rattle.pct_names.proofs.Names.{IsSomeAnd, is_ended_status, is_live_thread, is_waiting_on, key_place, list_any, List, named_after, NamedAction, nat_eq, NextStatement, not}
-use Rattle.pct_names.proofs.Names.{Option, Others, others_of, Process, refl, Run, run, same_Some, Script, SharedState, slice_get, Some, None, none-some, Status, Stmt, subst, sym, Thread, thread_moved}
-use Rattle.pct_names.proofs.Names.{thread_with, Transition, transition_by, true, value_of, Waiter, What, with_id, without_value, World, ℕ, ◌∙◌, ◌∷◌, ◌≡◌, ◌≢◌}
-use Rattle.std.proofs.Common.{eqb-true, eq-eqb, ne_eqb, true≢false, ap₂}
+use Rattle.pct_names.proofs.Names.{◌&&◌, [], and_from, and_left, and_parts, ap, Bool, Cause, cond, Config, Entry, eqb-false, false}
+use Rattle.pct_names.proofs.Names.{false≢true, holds_slot, is_ended_status, is_live_thread, is_waiting_on, IsSomeAnd, key_place, List}
+use Rattle.pct_names.proofs.Names.{list_any, moved, named_after, nat_eq, NextStatement, none-some, not, Option, Others, others_of, Process}
+use Rattle.pct_names.proofs.Names.{refl, Run, run, same_Some, Script, set, SharedState, slice_get, Some, Status, Stmt, subst, suc, sym}
+use Rattle.pct_names.proofs.Names.{Thread, thread_moved, thread_with, Transition, transition_by, true, value_of, Waiter, What, with_id}
+use Rattle.pct_names.proofs.Names.{without_value, zero, ◌||◌, ℕ, ◌∙◌, ◌∷◌, ◌≡◌, ◌≢◌}
+use Rattle.std.proofs.Common.{ap₂, eq-eqb, eqb-true, ne_eqb}
 use Rattle.std.proofs.Math.Bool.{or-false}
-use Rattle.pct_names.proofs.Names.{◌*◌, ◌+◌, ◌-◌, ◌<◌, arith, is_on, map, mod_below, moved, set, slot_of, suc, zero}
 use Rattle.pct_model.specs.CondCalls as machine
 use Rattle.pct_model.specs.declared.event.What.TheVariants as what
 use Rattle.pct_model.specs.declared.state.Cause.TheVariants as cause
 use Rattle.pct_model.specs.declared.state.Status.TheVariants as status
 use Rattle.pct_laws.specs.StatementLaw.{waits_on}
-use Rattle.pct_laws.specs.WakeLaw.{is_blocked_on, unblocked, requests, detaches, joins, KeepsOther, KeepsOthers}
-use Rattle.pct_transition_cases.proofs.TransitionCases.{TransitionCase, join_ended, thread_detached, request_sent, signal_handed_on, signal_sent, signal_lost, broadcast_sent, fork_handler_called, key_deleted}
+use Rattle.pct_laws.specs.WakeLaw.{is_blocked_on, unblocked, KeepsOther, KeepsOthers}
+use Rattle.pct_transition_cases.proofs.TransitionCases.{TransitionCase, join_ended, thread_detached, request_sent, signal_handed_on}
+use Rattle.pct_transition_cases.proofs.TransitionCases.{signal_sent, signal_lost, broadcast_sent, fork_handler_called, key_deleted}
 use Rattle.pct_thread_invariants.proofs.lift.EveryProcess.{moves_of_run}
 use Rattle.pct_thread_invariants.proofs.lift.HandlerEvents.{of_each_phase}
-use Rattle.pct_thread_invariants.proofs.lift.KeyedLists.{AreDistinct, found_passes, index_among}
+use Rattle.pct_thread_invariants.proofs.lift.KeyedLists.{AreDistinct, found_passes}
 use Rattle.pct_thread_invariants.proofs.lift.MadeThreads.{IsLive, live_thread}
 use Rattle.pct_thread_invariants.proofs.lift.MovedThreads.{EveryStep, step_of, case_of_step, every_step}
 use Rattle.pct_thread_invariants.proofs.lift.TakenSteps.{IsTaken}
-use Rattle.pct_thread_invariants.proofs.lift.ThreadIds.{HaveIds, ids_of}
+use Rattle.pct_thread_invariants.proofs.lift.ThreadIds.{ids_of}
 use Rattle.pct_thread_invariants.proofs.lift.ThreadsAfter.{Moves, After, was_made, is_new, is_absent, after}
 use Rattle.pct_wake_laws.proofs.SeenWaiters.{same_blocked, find_some, found_among, has_number}
 use Rattle.pct_wake_laws.proofs.WaitingThreads.{waits_by_id}
@@ -73,11 +75,19 @@ module _ (tid : ℕ) (u : Thread) where
       → Keeps (what.BroadcastTo c n ∷ []) (cond waits (record u { status = machine.unblocked cause.Broadcast u.status }) u)
   broadcast c n true is = record {
     unblocks = same_unblocked cause.Broadcast u.status ∙ ap (λ (b : Bool). cond b (unblocked cause.Broadcast u.status) u.status) is;
-    pending = refl; detached = refl; joined = refl; in_pass = λ place quiet. refl; rest = refl;
+    pending = refl;
+    detached = refl;
+    joined = refl;
+    in_pass = λ place quiet. refl;
+    rest = refl;
   }
   broadcast c n false is = record {
     unblocks = ap (λ (b : Bool). cond b (unblocked cause.Broadcast u.status) u.status) is;
-    pending = refl; detached = refl; joined = refl; in_pass = λ place quiet. refl; rest = refl;
+    pending = refl;
+    detached = refl;
+    joined = refl;
+    in_pass = λ place quiet. refl;
+    rest = refl;
   }
 
   -- a request, a detach, a join, and a key that is deleted
@@ -108,7 +118,11 @@ module _ (tid : ℕ) (u : Thread) where
 
   forgotten : (k : ℕ) → Keeps (what.KeyGone k ∷ []) (record u { specific = without_value (key_place k) u.specific })
   forgotten k = record {
-    unblocks = refl; pending = refl; detached = refl; joined = refl; rest = refl;
+    unblocks = refl;
+    pending = refl;
+    detached = refl;
+    joined = refl;
+    rest = refl;
     in_pass = λ place other. other_item u.specific.in_pass (key_place k) place false (λ same. eqb-false (key_place k) place (sym (or-false _) ∙ other) (sym same));
   }
 

@@ -1,8 +1,11 @@
 -- What a thread does in a condition wait: it waits by pthread_cond_wait alone, makes no step there but that it acts upon a request or acquires its
 -- mutex, and does not unblock itself.
-use Rattle.pct_names.proofs.Names.{◌&&◌, ◌++◌, [], act_if, acts_on_request, acts_or, Alt, and_from, ap, body_at, Bool, Cause, choices_at, cond, Config, Entry, false, false≢true, go_if, hands_on, is_deliverable, is_free_mutex, is_live_thread, is_none, ◌||◌}
-use Rattle.pct_names.proofs.Names.{leaves_wait, List, list_any, moved, named_after, NamedAction, nat_eq, next_of, NextStatement, None, NoStatement, not, offers, Option, or_left, Others, others_of, own_after, Process, reacquires, refl, Run, run}
-use Rattle.pct_names.proofs.Names.{Script, SharedState, Some, StatementIn, Status, Stmt, subst, sym, Thread, thread_at, Transition, transition_at, transition_by, true, What, ℕ, ◌∙◌, ◌∷◌, ◌≡◌}
+use Rattle.pct_names.proofs.Names.{◌&&◌, ◌++◌, [], acts_on_request, acts_or, Alt, and_from, body_at, Bool, Cause, choices_at, cond, Config}
+use Rattle.pct_names.proofs.Names.{Entry, false, false≢true, go_if, hands_on, is_deliverable, is_free_mutex, is_live_thread, is_none}
+use Rattle.pct_names.proofs.Names.{leaves_wait, List, list_any, moved, named_after, NamedAction, nat_eq, next_of, NextStatement, None}
+use Rattle.pct_names.proofs.Names.{NoStatement, not, offers, Option, or_left, Others, others_of, own_after, Process, reacquires, refl, Run}
+use Rattle.pct_names.proofs.Names.{run, Script, SharedState, Some, StatementIn, Status, Stmt, subst, sym, Thread, thread_at, Transition}
+use Rattle.pct_names.proofs.Names.{transition_at, transition_by, true, What, ◌||◌, ℕ, ◌∷◌, ◌≡◌}
 use Rattle.std.proofs.Common.{eq-eqb, true≢false}
 use Rattle.pct_model.specs.CondCalls as machine
 use Rattle.pct_model.specs.declared.event.What.TheVariants as what
@@ -15,9 +18,10 @@ use Rattle.pct_model.specs.LineParsing.{is_empty}
 use Rattle.pct_laws.specs.CondLaw as CondLaw
 use Rattle.pct_laws.specs.Kept.{is_cond_wait_of, IsSuspendedAt}
 use Rattle.pct_laws.specs.WaitStages.{acquires}
-use Rattle.pct_laws.specs.WakeLaw.{is_in_wait, has_its_mutex, may_become}
+use Rattle.pct_laws.specs.WakeLaw.{is_in_wait, may_become}
 use Rattle.pct_transition_cases.proofs.OfferedChoices.{may_go_on, offered_of}
-use Rattle.pct_transition_cases.proofs.TransitionCases.{TransitionCase, rests, join_ended, thread_detached, request_sent, wait_begun, wait_ended, canceled_in_wait, canceled_after_wait, signal_handed_on, ended_in_wait, signal_sent, broadcast_sent, key_deleted}
+use Rattle.pct_transition_cases.proofs.TransitionCases.{TransitionCase, rests, wait_begun, wait_ended, canceled_in_wait}
+use Rattle.pct_transition_cases.proofs.TransitionCases.{canceled_after_wait, signal_handed_on, ended_in_wait}
 use Rattle.pct_thread_invariants.proofs.ThreadsOfRun.{threads_kept}
 use Rattle.pct_thread_invariants.proofs.lift.ChangedThreads.{either_keeps}
 use Rattle.pct_thread_invariants.proofs.lift.EveryProcess.{moves_of_run, process_taken}

@@ -1,7 +1,9 @@
 -- The threads that wait on a condition variable, in the words of the law: those that a thread sees wait there.
-use Rattle.pct_names.proofs.Names.{◌&&◌, ◌*◌, ◌+◌, ◌-◌, ◌<◌, [], and_parts, ap, arith, Bool, by_slot, cond, count_by, eqb-false, false, false≢true, find, is_on, is_waiting_on, length, List, list_any, map, mod_below, nat_eq}
-use Rattle.pct_names.proofs.Names.{none-some, not, or_cases, or_left, or_right, inl, inr, pos_of_ne-zero, refl, slot_of, Some, Status, subst, sym, Thread, true, Waiter, waiters_among, ◌||◌, ℕ, ◌∙◌, ◌∷◌, ◌≡◌}
-use Rattle.std.proofs.Common.{eqb-true, eq-eqb, ne_eqb, true≢false}
+use Rattle.pct_names.proofs.Names.{◌&&◌, ◌*◌, ◌+◌, ◌-◌, ◌<◌, [], and_parts, ap, arith, Bool, by_slot, cond, count_by, eqb-false, false}
+use Rattle.pct_names.proofs.Names.{false≢true, find, is_on, is_waiting_on, length, List, list_any, map, mod_below, nat_eq, none-some, not}
+use Rattle.pct_names.proofs.Names.{pos_of_ne-zero, refl, slot_of, Some, Status, subst, sym, Thread, true, Waiter, waiters_among, ◌||◌, ℕ}
+use Rattle.pct_names.proofs.Names.{◌∙◌, ◌∷◌, ◌≡◌}
+use Rattle.std.proofs.Common.{eq-eqb, eqb-true, ne_eqb, true≢false}
 use Rattle.std.proofs.Math.Path.{fun_ext}
 use Rattle.pct_model.specs.declared.state.Status.TheVariants as status
 use Rattle.pct_laws.specs.StatementLaw.{waits_on}

@@ -1,9 +1,11 @@
 -- What a step makes of the state that its process shares.
-use Rattle.pct_names.proofs.Names.{◌&&◌, ◌++◌, [], acts_on_request, acts_or, Alt, ap, body_at, Bool, changed, Config, cond, Entry, false, false≢true, Frame, length, List, may_register, next_of, NextStatement, None, NoStatement, nat_lt, not, MAX_FORK_HANDLERS}
-use Rattle.pct_names.proofs.Names.{Option, Others, others_of, Process, refl, registers_fork, registers_if, Run, run, runs, Script, shared_after, shared_moved, SharedState, Some, StatementIn, Status, Stmt, stop_at, stops_or, subst, sym, Thread, Transition, transition_at, transition_by, true, What, Why, ForkHandlers, Dest, ℕ, ◌∙◌, ◌∷◌, ◌≡◌}
+use Rattle.pct_names.proofs.Names.{◌++◌, [], acts_on_request, acts_or, Alt, ap, body_at, Bool, cond, Config, Dest, Entry, false}
+use Rattle.pct_names.proofs.Names.{ForkHandlers, Frame, goes_on, length, List, MAX_FORK_HANDLERS, may_register, nat_lt, next_of}
+use Rattle.pct_names.proofs.Names.{NextStatement, None, NoStatement, Option, Others, others_of, Process, refl, registers_fork, registers_if}
+use Rattle.pct_names.proofs.Names.{Run, run, runs, Script, shared_after, shared_moved, SharedState, Some, StatementIn, Status, Stmt}
+use Rattle.pct_names.proofs.Names.{stop_at, stops_or, subst, sym, Thread, Transition, transition_at, transition_by, true, What, Why, ℕ, ◌∙◌}
+use Rattle.pct_names.proofs.Names.{◌∷◌, ◌≡◌}
 use Rattle.std.proofs.Common.{append-nil, true≢false}
-use Rattle.pct_names.proofs.Names.{goes_on}
-use Rattle.pct_laws.specs.ThreadSteps.{ThreadStep}
 use Rattle.pct_model.specs.declared.event.Caller.TheVariants as caller
 use Rattle.pct_model.specs.declared.event.What.TheVariants as what
 use Rattle.pct_model.specs.declared.schedule.Alt.TheVariants as alt
@@ -12,10 +14,12 @@ use Rattle.pct_model.specs.declared.statement.Stmt.TheVariants as statement
 use Rattle.pct_model.specs.declared.transition.SharedAction.{SharedAction}
 use Rattle.pct_model.specs.declared.transition.SharedAction.TheVariants as shared_action
 use Rattle.pct_model.specs.Actions.{without_first}
+use Rattle.pct_laws.specs.ThreadSteps.{ThreadStep}
 use Rattle.pct_laws.specs.AfterAll.{after_all}
 use Rattle.pct_laws.specs.CancelLaw.{is_running}
 use Rattle.pct_laws.specs.SharedLaw.{exits_after, new_exits, new_fork_handlers, ChangesShared, SharedLaw}
-use Rattle.pct_transition_cases.proofs.TransitionCases.{TransitionCase, exit_registered, exit_function_called, fork_registered, fork_handler_called}
+use Rattle.pct_transition_cases.proofs.TransitionCases.{TransitionCase, exit_registered, exit_function_called, fork_registered}
+use Rattle.pct_transition_cases.proofs.TransitionCases.{fork_handler_called}
 use Rattle.pct_thread_invariants.proofs.lift.ChangedThreads.{changed_shared}
 use Rattle.pct_thread_invariants.proofs.lift.EveryProcess.{moves_of_run}
 use Rattle.pct_thread_invariants.proofs.lift.HandlerEvents.{of_each_phase}
@@ -100,7 +104,12 @@ module _ {passes : ℕ} {body : List Stmt} {shared : SharedState} {t : Thread} {
   case_changes (exit_registered frame result f may) agree = record { owners = refl; counts = refl; exit_functions = refl; fork_handlers = sym (append-nil shared.fork_handlers); exit_value = refl; restricted = refl }
   case_changes (fork_registered frame result handlers room) agree = record { owners = refl; counts = refl; exit_functions = refl; fork_handlers = refl; exit_value = refl; restricted = refl }
   case_changes (exit_function_called next f functions is) agree = record {
-    owners = refl; counts = refl; exit_functions = newest_taken f shared.exit_functions; fork_handlers = sym (append-nil shared.fork_handlers); exit_value = refl; restricted = refl;
+    owners = refl;
+    counts = refl;
+    exit_functions = newest_taken f shared.exit_functions;
+    fork_handlers = sym (append-nil shared.fork_handlers);
+    exit_value = refl;
+    restricted = refl;
   }
   case_changes {s = s} {o = o} (fork_handler_called next at call is) agree =
       of_each_phase (λ (w : What). ChangesShared t.id (w ∷ []) s next shared (shared_moved o shared)) call.func
@@ -108,7 +117,10 @@ module _ {passes : ℕ} {body : List Stmt} {shared : SharedState} {t : Thread} {
       (record { owners = refl; counts = refl; exit_functions = refl; fork_handlers = sym (append-nil shared.fork_handlers); exit_value = refl; restricted = refl })
       (record { owners = refl; counts = refl; exit_functions = refl; fork_handlers = sym (append-nil shared.fork_handlers); exit_value = refl; restricted = refl }) at.phase
   case_changes {o = o} _ agree = record {
-    owners = refl; counts = refl; exit_value = refl; restricted = refl;
+    owners = refl;
+    counts = refl;
+    exit_value = refl;
+    restricted = refl;
     exit_functions = ap (λ (new : List ℕ). after_all exits_after o.events (new ++ shared.exit_functions)) (sym (agree refl).exits);
     fork_handlers = sym (append-nil shared.fork_handlers) ∙ ap (λ (new : List ForkHandlers). shared.fork_handlers ++ new) (sym (agree refl).forks);
   }
