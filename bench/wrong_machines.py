@@ -7,7 +7,7 @@ A machine is the definition of a step with one line of it changed, so that it br
 a request that is dropped. In a copy of the crates up to pct_ending_laws each machine is made in turn, and `rt check` then has to
 prove the laws of it. It is refused if the check does not prove them, and if an error is in a certain file: that of the proof of
 the law, or of a part of the invariant which this law needs. Other files have errors, too, where their proofs use the line that
-was changed. A crate is checked only where those below it are proved, so in the copy the five crates that prove the laws are one.
+was changed. A crate is checked only where those below it are proved, so in the copy the six crates that prove the laws are one.
 The list of the cases of a transition, from which the laws are proved, repeats the transitions; where the changed line is one of a
 transition, its case is changed alike, so that what is refused is the law.
 
@@ -25,7 +25,7 @@ import tempfile
 ROOT = pathlib.Path(__file__).resolve().parent.parent
 BELOW = ("pct_io", "pct_model", "pct_names", "pct_laws", "pct_jumps", "pct_transition_cases")
 # The crates that prove the laws. In the copy they are the last one.
-LAWS = ("pct_thread_invariants", "pct_join_laws", "pct_cancel_laws", "pct_process_laws", "pct_ending_laws")
+LAWS = ("pct_thread_invariants", "pct_join_laws", "pct_wake_laws", "pct_cancel_laws", "pct_process_laws", "pct_ending_laws")
 SPECS = "crates/pct_model/specs"
 CASES = "crates/pct_transition_cases/proofs"
 SECONDS = 1800
@@ -112,7 +112,7 @@ MACHINES = (
             ("TransitionCases",
              "(acts (what.Called join_point ∷ [])) { own = Some (own_action.SetStatus (status.Joining (value frame id))) })",
              "(acts (what.Called join_point ∷ [])) { own = Some (own_action.SetStatus (status.Joining (suc (value frame id)))) })")),
-    Machine("nobody_is_seen_to_wait", "StatementLaw", "steps/WaitingThreads", "OtherThreads",
+    Machine("nobody_is_seen_to_wait", "StatementLaw", "WaitingThreads", "OtherThreads",
             "waiter_by c id (status.Waiting cond m) = if nat_eq cond c then record { id = id; mutex = m } ∷ [] else []",
             "waiter_by c id (status.Waiting cond m) = []"),
     Machine("setspecific_stores_null", "ValueLaw", "results/SetValues", "TransitionTable",
@@ -125,6 +125,31 @@ MACHINES = (
     Machine("a_child_has_no_values", "ValueLaw", "results/OtherProcesses", "Actions",
             "pass = 0; specific = without_pass t.specific; kept = None;",
             "pass = 0; specific = record t.specific { values = [] }; kept = None;"),
+    Machine("a_wake_wakes_nobody", "WakeLaw", "OtherThreads", "Actions",
+            "named_after (Some (named_action.Wake id)) t = if is_live_thread id t then record t { status = unblocked cause.Signalled t.status } else t",
+            "named_after (Some (named_action.Wake id)) t = t"),
+    # The others of those that wait stay in their wait.
+    Machine("a_broadcast_wakes_one", "WakeLaw", "OtherThreads", "Actions",
+            "named_after (Some (named_action.WakeAll c)) t = if is_waiting_on c t.status then record",
+            "named_after (Some (named_action.WakeAll c)) t = if is_waiting_on c t.status && nat_eq t.id 2 then record"),
+    Machine("a_step_disables_other_threads", "WakeLaw", "OtherThreads", "Actions",
+            "thread_moved tid o t = named_after o.named (if is_live_thread tid t then moved o t else t)",
+            "thread_moved tid o t = named_after o.named (if is_live_thread tid t then moved o t else record t { state = ending_state })"),
+    Machine("a_canceled_waiter_keeps_the_signal", "WakeLaw", "HandedOnSignals", "CondCalls",
+            "hands_on u c m = if nat_eq u 0 then leaves_wait c m else record (acts (what.WaitCanceled c ∷ what.HandedOn c u ∷ [])) { own = Some (own_action.SetStatus (status.Reacquire c m cause.Canceled)); named = Some (named_action.Wake u) }",
+            "hands_on u c m = leaves_wait c m",
+            ("CaseOfTransition",
+             "acting_case n next (status.Reacquire c m cause.Signalled) may = handing_case n next c m may (nat_eq n 0) refl",
+             "acting_case n next (status.Reacquire c m cause.Signalled) may = canceled_after_wait next c m cause.Signalled refl (λ known. act_delivered (may known))")),
+    Machine("an_unlock_keeps_the_owner", "SharedLaw", "SharedChanges", "MutexCalls",
+            "unlocks next m = record (goes_on next (what.Released m ∷ [])) { shared = Some (shared_action.OwnMutex m 0) }",
+            "unlocks next m = goes_on next (what.Released m ∷ [])",
+            ("TransitionCases",
+             "(record (goes_on (suc frame.pc) (what.Released m ∷ [])) { shared = Some (shared_action.OwnMutex m 0) })",
+             "(goes_on (suc frame.pc) (what.Released m ∷ []))")),
+    Machine("atexit_registers_nothing", "SharedLaw", "SharedChanges", "Actions",
+            "shared_after (Some (shared_action.AddExit f)) s = record s { exit_functions = f ∷ s.exit_functions }",
+            "shared_after (Some (shared_action.AddExit f)) s = s"),
     Machine("join_stores_0", "ResultLaw", "results/StoredResults", "ThreadCalls",
             "{ writes = (d, v) ∷ []; named = Some (named_action.EndJoin id) }",
             "{ writes = (d, 0) ∷ []; named = Some (named_action.EndJoin id) }",

@@ -52,6 +52,8 @@ use Rattle.pct_ending_laws.proofs.steps.MadeFrames.{says_calls_of_run}
 use Rattle.pct_thread_invariants.proofs.lift.MovedThreads.{each_step}
 use Rattle.pct_ending_laws.proofs.steps.NamedWaits.{suspends_of_run, names_of_run}
 use Rattle.pct_ending_laws.proofs.steps.SaidStatements.{says_statements_of_run}
+use Rattle.pct_wake_laws.proofs.SharedChanges.{shared_law}
+use Rattle.pct_wake_laws.proofs.WakeLawKept.{wake_law}
 use Rattle.pct_cancel_laws.proofs.waits.WaitsOfRun.{waits_of_run, hand_ons_of_run, calls_of_run, waits_kept_of_run}
 
 -- each thread that is suspended in pthread_join
@@ -113,6 +115,8 @@ every_run_keeps_laws script config entries r is = record {
   frames = frame_law script config entries;
   joins = joins_of_run script config entries r is;
   conds = each_both (λ e earlier. owners_allow e earlier && waits_allow e earlier) hand_ons_allow r.events (each_both owners_allow waits_allow r.events (owners_of_run script config entries r is) (waits_of_run script config entries r is)) (hand_ons_of_run script config entries r is);
+  wakes = wake_law script config entries (each_step script config (λ s. says_statement config.slots script s ≡ true) (says_statements_of_run script config) entries);
+  shared = shared_law script config entries;
   creations = slots_of_run script config entries r is;
   processes = processes_of_run script config entries r is;
 }

@@ -5,6 +5,5 @@ pub mod KeptExitFunctions
 pub mod KeptKeys
 pub mod EndStages
 pub mod KeptValues
-pub mod WaitingThreads
 pub mod SaidStatements
 pub mod NamedWaits

@@ -11,6 +11,7 @@ pub mod MutexOwners
 pub mod WaitStages
 pub mod OpenPushes
 pub mod ThreadSteps
+pub mod AfterAll
 pub mod Once
 pub mod RanAll
 pub mod AfterEnd
@@ -27,6 +28,8 @@ pub mod ValueLaw
 pub mod FrameLaw
 pub mod JoinLaw
 pub mod CondLaw
+pub mod WakeLaw
+pub mod SharedLaw
 pub mod SlotLaw
 pub mod ProcessLaw
 pub mod Laws

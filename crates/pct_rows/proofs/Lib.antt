@@ -21,6 +21,8 @@ mod StatementRows
 mod ResultRows
 mod ValueRows
 mod FrameRows
+mod WakeRows
+mod SharedRows
 mod OneLawRows
 mod OptionRows
 mod EventRows

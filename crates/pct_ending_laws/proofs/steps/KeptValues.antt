@@ -1,9 +1,8 @@
 -- The law of values, of a step: at each place only pthread_setspecific of its key, the call of its destructor and its deletion change the
 -- value of the thread that makes the step; and only the begin of a pass and these two events change whether the place is left in its pass.
 use Rattle.pct_names.proofs.Names.{[], ap, Bool, cond, Config, Entry, eqb-false, false, key_place, KeyValues, List, list_any, nat_eq}
-use Rattle.pct_names.proofs.Names.{next_of, NextStatement, Others, Process, refl, Run, run, Script, set, SharedState, slice_get, Some}
-use Rattle.pct_names.proofs.Names.{Status, Stmt, suc, sym, Thread, thread_moved, Transition, transition_by, true, value_at, value_of, zero}
-use Rattle.pct_names.proofs.Names.{ℕ, ◌∙◌, ◌∷◌, ◌≡◌, ◌≢◌}
+use Rattle.pct_names.proofs.Names.{next_of, NextStatement, Others, Process, refl, Run, run, Script, SharedState, slice_get, Some, Status}
+use Rattle.pct_names.proofs.Names.{Stmt, sym, Thread, thread_moved, Transition, transition_by, true, value_at, value_of, ℕ, ◌∙◌, ◌∷◌, ◌≡◌, ◌≢◌}
 use Rattle.std.proofs.Common.{get_or-set_other}
 use Rattle.std.proofs.Math.Bool.{or-false}
 use Rattle.std.proofs.lemmas.Bool.{true≢false}
@@ -15,16 +14,7 @@ use Rattle.pct_thread_invariants.proofs.lift.EveryProcess.{moves_of_run}
 use Rattle.pct_thread_invariants.proofs.lift.TakenSteps.{IsTaken}
 use Rattle.pct_thread_invariants.proofs.lift.ThreadsAfter.{Moves, mover}
 use Rattle.pct_thread_invariants.proofs.lift.MovedThreads.{EveryStep, step_of, case_of_step, every_step}
-
--- ---- lists by place
-
--- an item stays as another place is written
-other_item : {A : Type 0} (xs : List A) (i j : ℕ) (y : A) → j ≢ i → slice_get (set xs i y) j ≡ slice_get xs j
-other_item [] i j y other = refl
-other_item (x ∷ xs) zero zero y other = absurd (other refl)
-other_item (x ∷ xs) zero (suc j) y other = refl
-other_item (x ∷ xs) (suc i) zero y other = refl
-other_item (x ∷ xs) (suc i) (suc j) y other = other_item xs i j y (λ same. other (ap suc same))
+use Rattle.pct_wake_laws.proofs.OtherThreads.{other_item}
 
 -- ---- a transition
 

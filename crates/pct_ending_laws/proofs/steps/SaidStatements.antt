@@ -33,7 +33,7 @@ use Rattle.pct_transition_cases.proofs.CaseOfTransition.{no_stops}
 use Rattle.pct_thread_invariants.proofs.lift.ProcessIds.{have_pids}
 use Rattle.pct_thread_invariants.proofs.lift.TakenSteps.{IsTaken}
 use Rattle.pct_cancel_laws.proofs.requests.ActingCalls.{its_status}
-use Rattle.pct_ending_laws.proofs.steps.WaitingThreads.{count_waiting, waits_by_id, count_some, no_free_slot, no_free_place}
+use Rattle.pct_wake_laws.proofs.WaitingThreads.{count_waiting, waits_by_id, count_some, no_free_slot, no_free_place}
 use Rattle.pct_ending_laws.proofs.steps.NamedWaits.{same, both_same}
 use Rattle.pct_thread_invariants.proofs.lift.MovedThreads.{EveryStep, step_of, every_step}
 

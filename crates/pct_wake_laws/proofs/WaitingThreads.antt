@@ -125,7 +125,7 @@ pub count_waiting : (slots c : ℕ) (threads : List Thread) → 0 < slots → le
 count_waiting slots c threads some = sum_of_ones (waiters_among c (by_slot slots threads)) ∙ sum_waiting slots c threads some (λ id. 1)
 
 -- a test that some item passes
-any_counted : {X : Type 0} (p : X → Bool) (xs : List X) → 0 < count_by p xs → list_any p xs ≡ true
+pub any_counted : {X : Type 0} (p : X → Bool) (xs : List X) → 0 < count_by p xs → list_any p xs ≡ true
 any_counted p [] some = absurd (omega (arith, some))
 any_counted p (x ∷ xs) some = by (p x) refl (any_counted p xs)
   where

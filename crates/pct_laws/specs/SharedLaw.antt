@@ -1,0 +1,72 @@
+-- The law of what the threads of a process share, but for the globals (ResultLaw.antt) and the keys (Calls.antt): the owner of a mutex and the
+-- count of a semaphore change by the events that say so alone (XSH pthread_mutex_lock, pthread_mutex_unlock, pthread_cond_wait, sem_wait,
+-- sem_post); atexit and pthread_atfork register what they name, unless they fail, and no other step registers anything; exit begins by its
+-- event alone, and takes the newest exit function away as it calls it (XSH atexit, pthread_atfork, exit).
+use Rattle.std.specs.Prelude.{◌≡◌, ℕ, suc, ◌-◌, ◌%◌, List, [], ◌∷◌, ◌++◌, Option, Some, slice_index, slice_set}
+use Rattle.pct_model.specs.declared.event.What.{What}
+use Rattle.pct_model.specs.declared.event.What.TheVariants as what
+use Rattle.pct_model.specs.declared.process.ForkHandlers.{ForkHandlers}
+use Rattle.pct_model.specs.declared.schedule.Config.{Config}
+use Rattle.pct_model.specs.declared.schedule.Entry.{Entry}
+use Rattle.pct_model.specs.declared.script.Script.{Script}
+use Rattle.pct_model.specs.declared.state.Status.{Status}
+use Rattle.pct_model.specs.declared.state.Status.TheVariants as status
+use Rattle.pct_model.specs.declared.statement.Stmt.TheVariants as statement
+use Rattle.pct_model.specs.NextStatement.{NextStatement, StatementIn, next_of}
+use Rattle.pct_model.specs.World.{SharedState}
+use Rattle.pct_laws.specs.AfterAll.{after_all}
+use Rattle.pct_laws.specs.ThreadSteps.{ThreadStep, EachStep}
+
+-- ---- what an event changes
+
+-- the owners of mutexes after an event of thread tid; 0 is none
+abbrev pub owners_after : ℕ → What → List ℕ → List ℕ
+owners_after tid (what.Acquired m) owners = slice_set owners m tid
+owners_after tid (what.Released m) owners = slice_set owners m 0
+owners_after tid _ owners = owners
+
+-- the counts of semaphores. That a count of 2^32 - 1 is followed by 0 is a choice of this host
+abbrev pub counts_after : What → List ℕ → List ℕ
+counts_after (what.Taken sem) counts = slice_set counts sem (slice_index counts sem - 1)
+counts_after (what.Posted sem) counts = slice_set counts sem (suc (slice_index counts sem) % 4294967296)
+counts_after _ counts = counts
+
+-- the functions that were registered with atexit, newest first: the newest is taken away as it is called
+abbrev pub exits_after : What → List ℕ → List ℕ
+exits_after (what.ExitRun f) (newest ∷ older) = older
+exits_after _ functions = functions
+
+-- the value with which exit began, if it has begun
+abbrev pub exit_value_after : What → Option ℕ → Option ℕ
+exit_value_after (what.ExitBegun v) value = Some v
+exit_value_after _ value = value
+
+-- ---- what a step registers
+
+-- the function that a thread with this status and this next statement registers with atexit, in a step with these events: a call that fails
+-- has an event
+abbrev pub new_exits : List What → Status → NextStatement → List ℕ
+new_exits [] status.Running (StatementIn frame (statement.AtExit result f)) = f ∷ []
+new_exits events s next = []
+
+-- the fork handlers that it registers with pthread_atfork
+abbrev pub new_fork_handlers : List What → Status → NextStatement → List ForkHandlers
+new_fork_handlers [] status.Running (StatementIn frame (statement.AtFork result prepare parent child)) = record { prepare = prepare; parent = parent; child = child } ∷ []
+new_fork_handlers events s next = []
+
+-- ---- the law
+
+-- what a step with these events, of thread tid with this status and this next statement, makes of the state that its process shares
+pub record ChangesShared (tid : ℕ) (events : List What) (s : Status) (next : NextStatement) (before after : SharedState) : Type 0 where
+  pub owners : after.owners ≡ after_all (owners_after tid) events before.owners
+  pub counts : after.counts ≡ after_all counts_after events before.counts
+  -- a new exit function comes first, and new fork handlers last
+  pub exit_functions : after.exit_functions ≡ after_all exits_after events (new_exits events s next ++ before.exit_functions)
+  pub fork_handlers : after.fork_handlers ≡ before.fork_handlers ++ new_fork_handlers events s next
+  pub exit_value : after.exit_value ≡ after_all exit_value_after events before.exit_value
+  -- a process is restricted as it is made, or never
+  pub restricted : after.restricted ≡ before.restricted
+
+-- the law of the shared state, of the run of a schedule
+pub record SharedLaw (script : Script) (config : Config) (entries : List Entry) : Type 0 where
+  pub changes : EachStep script config entries (λ s. ChangesShared s.tid s.events s.before.status (next_of script s.before.frames) s.process.shared s.process_after.shared)

@@ -1,0 +1,84 @@
+-- The law of what the threads of a process share: made steps that keep it, and made steps that do not. Each step that does not differs from one
+-- that does in one thing, and has the name of the sentence that it breaks.
+use Rattle.pct_names.proofs.Names.{[], ap, arith, Bool, false, ForkHandlers, is_none, length, List, new_frame, NextStatement, None, Option}
+use Rattle.pct_names.proofs.Names.{refl, Running, SharedState, slice_index, Some, StatementIn, Status, Stmt, sym, true, What, ℕ, ◌∷◌, ◌≡◌}
+use Rattle.std.proofs.lemmas.Bool.{true≢false}
+use Rattle.pct_model.specs.declared.event.Caller.TheVariants as caller
+use Rattle.pct_model.specs.declared.event.What.TheVariants as what
+use Rattle.pct_model.specs.declared.state.FrameKind.TheVariants as kind
+use Rattle.pct_model.specs.declared.state.Status.TheVariants as status
+use Rattle.pct_model.specs.declared.statement.Dest.TheVariants as destination
+use Rattle.pct_model.specs.declared.statement.Operand.TheVariants as operand
+use Rattle.pct_model.specs.declared.statement.Stmt.TheVariants as statement
+use Rattle.pct_laws.specs.SharedLaw.{ChangesShared}
+
+-- ---- steps of thread 2
+
+-- these owners, counts and exit functions
+abbrev shared : List ℕ → List ℕ → List ℕ → SharedState
+shared owners counts functions = record { globals = []; owners = owners; counts = counts; keys = []; fork_handlers = []; exit_functions = functions; exit_value = None; restricted = false }
+
+abbrev at : Stmt → NextStatement
+at s = StatementIn (new_frame 0 0 kind.Start) s
+
+-- mutex 1 has no owner before the step, semaphore 0 the count 3, and function 4 was registered with atexit
+abbrev before : SharedState
+before = shared (5 ∷ 0 ∷ []) (3 ∷ []) (4 ∷ [])
+
+abbrev Step : List What → Status → Stmt → SharedState → Type 0
+Step events s next after = ChangesShared 2 events s (at next) before after
+
+-- ---- owners and counts
+
+a_lock_gives_the_mutex_to_its_thread : Step (what.Acquired 1 ∷ []) Running (statement.Lock 1) (shared (5 ∷ 2 ∷ []) (3 ∷ []) (4 ∷ []))
+a_lock_gives_the_mutex_to_its_thread = record { owners = refl; counts = refl; exit_functions = refl; fork_handlers = refl; exit_value = refl; restricted = refl }
+
+and_to_no_other : Step (what.Acquired 1 ∷ []) Running (statement.Lock 1) (shared (5 ∷ 6 ∷ []) (3 ∷ []) (4 ∷ [])) → ⊥
+and_to_no_other law = let n : ◌≡◌ {A = ℕ} 6 2 = ap (λ (owners : List ℕ). slice_index owners 1) law.owners in omega (arith, n)
+
+an_unlock_leaves_no_owner : Step (what.Released 0 ∷ []) Running (statement.Unlock 0) (shared (5 ∷ 0 ∷ []) (3 ∷ []) (4 ∷ [])) → ⊥
+an_unlock_leaves_no_owner law = let n : ◌≡◌ {A = ℕ} 5 0 = ap (λ (owners : List ℕ). slice_index owners 0) law.owners in omega (arith, n)
+
+a_mutex_stays_with_its_owner : Step [] Running statement.Nop (shared (0 ∷ 0 ∷ []) (3 ∷ []) (4 ∷ [])) → ⊥
+a_mutex_stays_with_its_owner law = let n : ◌≡◌ {A = ℕ} 0 5 = ap (λ (owners : List ℕ). slice_index owners 0) law.owners in omega (arith, n)
+
+a_post_counts : Step (what.Posted 0 ∷ []) Running (statement.SemPost 0) (shared (5 ∷ 0 ∷ []) (4 ∷ []) (4 ∷ []))
+a_post_counts = record { owners = refl; counts = refl; exit_functions = refl; fork_handlers = refl; exit_value = refl; restricted = refl }
+
+by_one : Step (what.Posted 0 ∷ []) Running (statement.SemPost 0) (shared (5 ∷ 0 ∷ []) (5 ∷ []) (4 ∷ [])) → ⊥
+by_one law = let n : ◌≡◌ {A = ℕ} 5 4 = ap (λ (counts : List ℕ). slice_index counts 0) law.counts in omega (arith, n)
+
+a_wait_takes_one : Step (what.Taken 0 ∷ []) (status.InSem 0) (statement.SemWait 0) (shared (5 ∷ 0 ∷ []) (3 ∷ []) (4 ∷ [])) → ⊥
+a_wait_takes_one law = let n : ◌≡◌ {A = ℕ} 3 2 = ap (λ (counts : List ℕ). slice_index counts 0) law.counts in omega (arith, n)
+
+-- ---- what is registered
+
+abbrev atexit : Stmt
+atexit = statement.AtExit destination.Drop 6
+
+abbrev atfork : Stmt
+atfork = statement.AtFork destination.Drop None (Some 6) None
+
+it_is_the_newest : Step [] Running atexit (shared (5 ∷ 0 ∷ []) (3 ∷ []) (6 ∷ 4 ∷ []))
+it_is_the_newest = record { owners = refl; counts = refl; exit_functions = refl; fork_handlers = refl; exit_value = refl; restricted = refl }
+
+not_the_oldest : Step [] Running atexit (shared (5 ∷ 0 ∷ []) (3 ∷ []) (4 ∷ 6 ∷ [])) → ⊥
+not_the_oldest law = let n : ◌≡◌ {A = ℕ} 4 6 = ap (λ (functions : List ℕ). slice_index functions 0) law.exit_functions in omega (arith, n)
+
+atexit_registers : Step [] Running atexit before → ⊥
+atexit_registers law = let n : ◌≡◌ {A = ℕ} 4 6 = ap (λ (functions : List ℕ). slice_index functions 0) law.exit_functions in omega (arith, n)
+
+unless_it_fails : Step (what.Answer caller.AtExit 1 ∷ []) Running atexit before
+unless_it_fails = record { owners = refl; counts = refl; exit_functions = refl; fork_handlers = refl; exit_value = refl; restricted = refl }
+
+an_exit_takes_the_newest : Step (what.ExitRun 4 ∷ []) status.Exiting statement.Nop before → ⊥
+an_exit_takes_the_newest law = let n : ◌≡◌ {A = ℕ} 4 0 = ap (λ (functions : List ℕ). slice_index functions 0) law.exit_functions in omega (arith, n)
+
+pthread_atfork_registers : Step [] Running atfork before → ⊥
+pthread_atfork_registers law = let n : ◌≡◌ {A = ℕ} 0 1 = ap (λ (handlers : List ForkHandlers). length handlers) law.fork_handlers in omega (arith, n)
+
+as_its_operands_say : Step [] Running atfork (record before { fork_handlers = record { prepare = None; parent = Some 6; child = None } ∷ [] })
+as_its_operands_say = record { owners = refl; counts = refl; exit_functions = refl; fork_handlers = refl; exit_value = refl; restricted = refl }
+
+exit_begins_by_its_event : Step [] Running statement.Nop (record before { exit_value = Some 0 }) → ⊥
+exit_begins_by_its_event law = true≢false (sym (ap (λ (value : Option ℕ). is_none value) law.exit_value))

@@ -1,0 +1,149 @@
+-- What a step makes of the state that its process shares.
+use Rattle.pct_names.proofs.Names.{◌++◌, [], acts_on_request, acts_or, Alt, ap, body_at, Bool, cond, Config, Dest, Entry, false}
+use Rattle.pct_names.proofs.Names.{ForkHandlers, Frame, goes_on, length, List, MAX_FORK_HANDLERS, may_register, nat_lt, next_of}
+use Rattle.pct_names.proofs.Names.{NextStatement, None, NoStatement, Option, Others, others_of, Process, refl, registers_fork, registers_if}
+use Rattle.pct_names.proofs.Names.{Run, run, runs, Script, shared_after, shared_moved, SharedState, Some, StatementIn, Status, Stmt}
+use Rattle.pct_names.proofs.Names.{stop_at, stops_or, subst, sym, Thread, Transition, transition_at, transition_by, true, What, Why, ℕ, ◌∙◌}
+use Rattle.pct_names.proofs.Names.{◌∷◌, ◌≡◌}
+use Rattle.std.proofs.Common.{append-nil, true≢false}
+use Rattle.pct_model.specs.declared.event.Caller.TheVariants as caller
+use Rattle.pct_model.specs.declared.event.What.TheVariants as what
+use Rattle.pct_model.specs.declared.schedule.Alt.TheVariants as alt
+use Rattle.pct_model.specs.declared.state.Status.TheVariants as status
+use Rattle.pct_model.specs.declared.statement.Stmt.TheVariants as statement
+use Rattle.pct_model.specs.declared.transition.SharedAction.{SharedAction}
+use Rattle.pct_model.specs.declared.transition.SharedAction.TheVariants as shared_action
+use Rattle.pct_model.specs.Actions.{without_first}
+use Rattle.pct_laws.specs.ThreadSteps.{ThreadStep}
+use Rattle.pct_laws.specs.AfterAll.{after_all}
+use Rattle.pct_laws.specs.CancelLaw.{is_running}
+use Rattle.pct_laws.specs.SharedLaw.{exits_after, new_exits, new_fork_handlers, ChangesShared, SharedLaw}
+use Rattle.pct_transition_cases.proofs.TransitionCases.{TransitionCase, exit_registered, exit_function_called, fork_registered}
+use Rattle.pct_transition_cases.proofs.TransitionCases.{fork_handler_called}
+use Rattle.pct_thread_invariants.proofs.lift.ChangedThreads.{changed_shared}
+use Rattle.pct_thread_invariants.proofs.lift.EveryProcess.{moves_of_run}
+use Rattle.pct_thread_invariants.proofs.lift.HandlerEvents.{of_each_phase}
+use Rattle.pct_thread_invariants.proofs.lift.MovedThreads.{EveryStep, each_step, step_of, case_of_step, every_step}
+use Rattle.pct_thread_invariants.proofs.lift.TakenSteps.{IsTaken}
+use Rattle.pct_thread_invariants.proofs.lift.ThreadsAfter.{Moves, mover}
+
+-- ---- registrations
+
+-- the action registers a function or fork handlers
+abbrev registers : Option SharedAction → Bool
+registers (Some (shared_action.AddExit f)) = true
+registers (Some (shared_action.AddForkHandlers handlers)) = true
+registers _ = false
+
+-- by the law a step with these events registers nothing
+record RegistersNone (events : List What) (s : Status) (next : NextStatement) : Type 0 where
+  exits : new_exits events s next ≡ []
+  forks : new_fork_handlers events s next ≡ []
+
+-- a transition that registers nothing is one that by the law registers nothing
+abbrev Agrees : NextStatement → Status → Transition → Type 0
+Agrees next s o = registers o.shared ≡ false → RegistersNone o.events s next
+
+-- the statement registers a function or fork handlers
+abbrev is_registration : Stmt → Bool
+is_registration (statement.AtExit result f) = true
+is_registration (statement.AtFork result prepare parent child) = true
+is_registration _ = false
+
+none_by_other : (frame : Frame) (st : Stmt) → is_registration st ≡ false → (events : List What) → RegistersNone events status.Running (StatementIn frame st)
+none_by_other frame st is (w ∷ events) = record { exits = refl; forks = refl }
+none_by_other frame (statement.AtExit result f) is [] = absurd (true≢false is)
+none_by_other frame (statement.AtFork result prepare parent child) is [] = absurd (true≢false is)
+none_by_other frame _ is [] = record { exits = refl; forks = refl }
+
+none_elsewhere : (events : List What) (s : Status) (next : NextStatement) → is_running s ≡ false → RegistersNone events s next
+none_elsewhere (w ∷ events) s next is = record { exits = refl; forks = refl }
+none_elsewhere [] status.Running next is = absurd (true≢false is)
+none_elsewhere [] _ next is = record { exits = refl; forks = refl }
+
+module _ (passes : ℕ) (body : List Stmt) (shared : SharedState) (t : Thread) (others : Others) where
+  at_exit_agrees : (frame : Frame) (result : Dest) (f pc : ℕ) (stop : Option Why) (may : Bool) → Agrees (StatementIn frame (statement.AtExit result f)) status.Running (stops_or stop (registers_if may pc result f))
+  unfolding registers_if
+  at_exit_agrees frame result f pc (Some why) may none = record { exits = refl; forks = refl }
+  at_exit_agrees frame result f pc None true none = absurd (true≢false none)
+  at_exit_agrees frame result f pc None false none = record { exits = refl; forks = refl }
+
+  at_fork_agrees : (frame : Frame) (result : Dest) (prepare parent child : Option ℕ) (pc count : ℕ) (stop : Option Why)
+      → Agrees (StatementIn frame (statement.AtFork result prepare parent child)) status.Running (stops_or stop (registers_fork count pc result (record { prepare = prepare; parent = parent; child = child })))
+  unfolding registers_fork
+  at_fork_agrees frame result prepare parent child pc count (Some why) none = record { exits = refl; forks = refl }
+  at_fork_agrees frame result prepare parent child pc count None none = by (nat_lt count MAX_FORK_HANDLERS) none
+    where
+      by : (room : Bool) → Agrees (StatementIn frame (statement.AtFork result prepare parent child)) status.Running
+          (cond room (record (goes_on pc []) { writes = (result, 0) ∷ []; shared = Some (shared_action.AddForkHandlers (record { prepare = prepare; parent = parent; child = child })) }) (record (goes_on pc (what.Answer caller.AtFork 2 ∷ [])) { writes = (result, 2) ∷ [] }))
+      by true none = absurd (true≢false none)
+      by false none = record { exits = refl; forks = refl }
+
+  running_agrees : (choice : Alt) (next : NextStatement) → Agrees next status.Running (acts_or choice status.Running (transition_at passes body shared t others choice next status.Running))
+  unfolding transition_at acts_on_request runs
+  running_agrees (alt.Act n) next none = record { exits = refl; forks = refl }
+  running_agrees choice NoStatement none = record { exits = refl; forks = refl }
+  running_agrees choice (StatementIn frame (statement.AtExit result f)) none = at_exit_agrees frame result f _ (stop_at body shared t others frame (statement.AtExit result f)) (may_register shared) none
+  running_agrees choice (StatementIn frame (statement.AtFork result prepare parent child)) none =
+      at_fork_agrees frame result prepare parent child _ (length shared.fork_handlers) (stop_at body shared t others frame (statement.AtFork result prepare parent child)) none
+  running_agrees choice (StatementIn frame st) none = none_by_other frame st refl _
+
+  agrees : (choice : Alt) (next : NextStatement) (s : Status) → Agrees next s (acts_or choice s (transition_at passes body shared t others choice next s))
+  agrees choice next status.Running none = running_agrees choice next none
+  agrees choice next s none = none_elsewhere _ s next refl
+
+-- ---- a transition
+
+newest_taken : (f : ℕ) (functions : List ℕ) → without_first functions ≡ exits_after (what.ExitRun f) functions
+newest_taken f [] = refl
+newest_taken f (g ∷ functions) = refl
+
+module _ {passes : ℕ} {body : List Stmt} {shared : SharedState} {t : Thread} {others : Others} where
+  case_changes : {next : NextStatement} {s : Status} {o : Transition} → TransitionCase passes body shared t others true next s o → Agrees next s o → ChangesShared t.id o.events s next shared (shared_moved o shared)
+  unfolding shared_after
+  case_changes (exit_registered frame result f may) agree = record { owners = refl; counts = refl; exit_functions = refl; fork_handlers = sym (append-nil shared.fork_handlers); exit_value = refl; restricted = refl }
+  case_changes (fork_registered frame result handlers room) agree = record { owners = refl; counts = refl; exit_functions = refl; fork_handlers = refl; exit_value = refl; restricted = refl }
+  case_changes (exit_function_called next f functions is) agree = record {
+    owners = refl;
+    counts = refl;
+    exit_functions = newest_taken f shared.exit_functions;
+    fork_handlers = sym (append-nil shared.fork_handlers);
+    exit_value = refl;
+    restricted = refl;
+  }
+  case_changes {s = s} {o = o} (fork_handler_called next at call is) agree =
+      of_each_phase (λ (w : What). ChangesShared t.id (w ∷ []) s next shared (shared_moved o shared)) call.func
+      (record { owners = refl; counts = refl; exit_functions = refl; fork_handlers = sym (append-nil shared.fork_handlers); exit_value = refl; restricted = refl })
+      (record { owners = refl; counts = refl; exit_functions = refl; fork_handlers = sym (append-nil shared.fork_handlers); exit_value = refl; restricted = refl })
+      (record { owners = refl; counts = refl; exit_functions = refl; fork_handlers = sym (append-nil shared.fork_handlers); exit_value = refl; restricted = refl }) at.phase
+  case_changes {o = o} _ agree = record {
+    owners = refl;
+    counts = refl;
+    exit_value = refl;
+    restricted = refl;
+    exit_functions = ap (λ (new : List ℕ). after_all exits_after o.events (new ++ shared.exit_functions)) (sym (agree refl).exits);
+    fork_handlers = sym (append-nil shared.fork_handlers) ∙ ap (λ (new : List ForkHandlers). shared.fork_handlers ++ new) (sym (agree refl).forks);
+  }
+
+-- ---- each step of a run
+
+module _ (script : Script) (config : Config) where
+  -- the law of a step
+  abbrev IsLawful : ThreadStep → Type 0
+  IsLawful s = ChangesShared s.tid s.events s.before.status (next_of script s.before.frames) s.process.shared s.process_after.shared
+
+  changes_of_step : (before : List Entry) (r : Run) → run script config before ≡ Some r → (e : Entry) (p : Process) (t : Thread) → IsTaken script config r.world e p t → IsLawful (step_of script config r p e t)
+  changes_of_step before r is e p t taken =
+      let o : Transition = transition_by script config r.world p t e.alt in
+      let moves : Moves script config r.world p e t = moves_of_run script config before r is e p t taken in
+      let next : NextStatement = next_of script t.frames in
+      subst (λ (after : SharedState). ChangesShared e.tid o.events t.status next p.shared after) (sym (changed_shared e.tid o p))
+      (subst (λ (tid : ℕ). ChangesShared tid o.events t.status next p.shared (shared_moved o p.shared)) (mover script config r.world p e t moves).number
+      (case_changes (case_of_step script config r.world p e t moves) (agrees config.passes (body_at script t.frames) p.shared t (others_of config.slots r.world p t.id) e.alt next t.status)))
+
+  changes_of_run : EveryStep script config IsLawful
+  changes_of_run = every_step script config IsLawful changes_of_step
+
+  -- every run keeps the law of the shared state
+  pub shared_law : (entries : List Entry) → SharedLaw script config entries
+  shared_law entries = record { changes = each_step script config IsLawful changes_of_run entries }
