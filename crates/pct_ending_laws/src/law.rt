@@ -20,6 +20,8 @@ ghost use Rattle.pct_ending_laws.specs.EndingLaws.{RunsKeepLaws, StatesAreKept};
 ///   reports, or one of the state before. Each other global keeps its value, and so does each other local of a function that goes on.
 /// - pthread_setspecific gives its thread the value of the operand; a new thread has NULL for each key, and each thread for a new key;
 ///   a step changes no other value of another thread, and no thread of another process.
+/// - pthread_create makes one thread, which executes its start routine with the argument, and fork one process, with a copy of the
+///   state of its parent and the replica of the thread that called it; no other step makes a thread or a process.
 /// - Each join that returns gets the value of a thread that has ended, no thread is joined twice or while it is detached, and no
 ///   request and no detach names a thread that is not known, or that has both ended and been joined or detached.
 /// - Each mutex is acquired while no thread owns it, and released by its owner; a condition wait that released its mutex goes on

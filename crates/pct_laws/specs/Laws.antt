@@ -10,6 +10,7 @@ use Rattle.pct_laws.specs.Each.{each}
 use Rattle.pct_laws.specs.Once as Once
 use Rattle.pct_laws.specs.SlotLaw as SlotLaw
 use Rattle.pct_laws.specs.CondLaw as CondLaw
+use Rattle.pct_laws.specs.CreationLaw.{CreationLaw}
 use Rattle.pct_laws.specs.Ends.{Ends}
 use Rattle.pct_laws.specs.JoinLaw as JoinLaw
 use Rattle.pct_laws.specs.ProcessLaw as ProcessLaw
@@ -46,6 +47,9 @@ pub record Laws (script : Script) (config : Config) (entries : List Entry) (r : 
   -- pthread_setspecific gives its thread the value of the operand; a new thread has NULL for each key, and each thread for a new key; and
   -- a step changes no other value of another thread, and no thread of another process
   pub values : ValueLaw script config entries
+  -- pthread_create makes one thread, which executes its start routine, and fork one process, with a copy of the state of its parent and the
+  -- replica of the thread that called fork; no other step makes a thread or a process
+  pub created : CreationLaw script config entries
   -- each join that returns gets the value of a thread that has ended, no thread is joined twice or while it is detached, and no
   -- request or detach names a thread outside the lifetime of its id
   pub joins : each JoinLaw.allows r.events ≡ true

@@ -27,5 +27,6 @@ pub mod ValueLaw
 pub mod JoinLaw
 pub mod CondLaw
 pub mod SlotLaw
+pub mod CreationLaw
 pub mod ProcessLaw
 pub mod Laws

@@ -20,6 +20,7 @@ mod ActRows
 mod StatementRows
 mod ResultRows
 mod ValueRows
+mod CreationRows
 mod OneLawRows
 mod OptionRows
 mod EventRows
