@@ -12,6 +12,7 @@ use Rattle.pct_laws.specs.SlotLaw as SlotLaw
 use Rattle.pct_laws.specs.CondLaw as CondLaw
 use Rattle.pct_laws.specs.CreationLaw.{CreationLaw}
 use Rattle.pct_laws.specs.Ends.{Ends}
+use Rattle.pct_laws.specs.ForkLaw.{ForkLaw}
 use Rattle.pct_laws.specs.JoinLaw as JoinLaw
 use Rattle.pct_laws.specs.ProcessLaw as ProcessLaw
 use Rattle.pct_laws.specs.RanAll as RanAll
@@ -50,6 +51,8 @@ pub record Laws (script : Script) (config : Config) (entries : List Entry) (r : 
   -- pthread_create makes one thread, which executes its start routine, and fork one process, with a copy of the state of its parent and the
   -- replica of the thread that called fork; no other step makes a thread or a process
   pub created : CreationLaw script config entries
+  -- fork calls the fork handlers that were registered at its call, in their order; it makes a process, and returns, with none left to call
+  pub forks : ForkLaw script config entries
   -- each join that returns gets the value of a thread that has ended, no thread is joined twice or while it is detached, and no
   -- request or detach names a thread outside the lifetime of its id
   pub joins : each JoinLaw.allows r.events ≡ true

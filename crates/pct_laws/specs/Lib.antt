@@ -28,5 +28,6 @@ pub mod JoinLaw
 pub mod CondLaw
 pub mod SlotLaw
 pub mod CreationLaw
+pub mod ForkLaw
 pub mod ProcessLaw
 pub mod Laws

@@ -21,6 +21,7 @@ mod StatementRows
 mod ResultRows
 mod ValueRows
 mod CreationRows
+mod ForkLawRows
 mod OneLawRows
 mod OptionRows
 mod EventRows
