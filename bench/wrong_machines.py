@@ -25,7 +25,7 @@ import tempfile
 ROOT = pathlib.Path(__file__).resolve().parent.parent
 BELOW = ("pct_io", "pct_model", "pct_names", "pct_laws", "pct_jumps", "pct_transition_cases")
 # The crates that prove the laws. In the copy they are the last one.
-LAWS = ("pct_thread_invariants", "pct_join_laws", "pct_wake_laws", "pct_cancel_laws", "pct_process_laws", "pct_ending_laws")
+LAWS = ("pct_thread_invariants", "pct_join_laws", "pct_wake_laws", "pct_cancel_laws", "pct_process_laws", "pct_frame_laws", "pct_creation_laws", "pct_ending_laws")
 SPECS = "crates/pct_model/specs"
 CASES = "crates/pct_transition_cases/proofs"
 SECONDS = 1800
@@ -180,6 +180,30 @@ MACHINES = (
     Machine("a_call_takes_the_place_of_its_caller", "ResultLaw", "results/StoredResults", "Actions",
             "own_after (Some (own_action.Call f a kind)) t = record t { status = Running; frames = new_frame f a kind ∷ t.frames }",
             "own_after (Some (own_action.Call f a kind)) t = record t { status = Running; frames = new_frame f a kind ∷ without_first t.frames }"),
+    Machine("canceled_value_0", "Once", "thread/Ends", "ThreadEnds",
+            "end_value reason.Canceled = 4294967295",
+            "end_value reason.Canceled = 0"),
+    Machine("a_new_thread_is_disabled", "CreationLaw", "creations/NewThreads", "World",
+            "use Rattle.pct_model.specs.declared.state.State.TheVariants.{Enable}",
+            "use Rattle.pct_model.specs.declared.state.State.TheVariants.{Disable as Enable}"),
+    Machine("a_new_thread_gets_argument_0", "CreationLaw", "creations/NewThreads", "TransitionTable",
+            "(suc frame.pc) result id f (value frame v) detached",
+            "(suc frame.pc) result id f 0 detached",
+            ("TransitionCases",
+             "detached = detached; func = f; arg = value frame v })",
+             "detached = detached; func = f; arg = 0 })")),
+    Machine("a_child_keeps_the_request", "CreationLaw", "creations/NewProcesses", "Actions",
+            "mode = t.mode; pending = false; handlers = t.handlers;",
+            "mode = t.mode; pending = t.pending; handlers = t.handlers;"),
+    Machine("a_child_has_no_owners", "CreationLaw", "creations/NewProcesses", "Actions",
+            "shared = record p.shared { exit_value = None; restricted",
+            "shared = record p.shared { owners = []; exit_value = None; restricted"),
+    Machine("fork_calls_the_oldest_handler_first", "ForkLaw", "forks/LeftHandlers", "ForkCalls",
+            "if is_prepare at.phase then reverse (range_with_len 0 at.next) else",
+            "if is_prepare at.phase then range_with_len 0 at.next else"),
+    Machine("fork_passes_over_a_handler", "ForkLaw", "forks/LeftHandlers", "ForkCalls",
+            "{ next = if is_prepare at.phase then index else suc index }",
+            "{ next = if is_prepare at.phase then index else suc (suc index) }"),
 )
 
 

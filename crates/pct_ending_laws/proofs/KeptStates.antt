@@ -5,7 +5,9 @@ use Rattle.pct_names.proofs.Names.{◌≡◌}
 use Rattle.pct_model.specs.declared.state.Status.TheVariants as status
 use Rattle.pct_laws.specs.Calls.{EachIsCalled, says_calls, KeepsExitFunctions, KeepsKeys}
 use Rattle.pct_laws.specs.CancelLaw.{acts_where_it_may, acts_at_calls}
+use Rattle.pct_laws.specs.CreationLaw.{CreatesThreads}
 use Rattle.pct_laws.specs.Ends.{each_may_begin, KeepsValues}
+use Rattle.pct_laws.specs.ForkLaw.{KeepsFork}
 use Rattle.pct_laws.specs.Kept.{IsPlainFunction, IsSuspendedInJoin}
 use Rattle.pct_laws.specs.CondLaw.{owners_allow, waits_allow, hand_ons_allow}
 use Rattle.pct_laws.specs.ResultLaw.{KeepsAnswer, StoresResults}
@@ -36,6 +38,9 @@ use Rattle.pct_cancel_laws.proofs.requests.AwakenedThreads.{awakened_of_run}
 use Rattle.pct_cancel_laws.proofs.requests.CancelStates.{cancelability_of_run}
 use Rattle.pct_cancel_laws.proofs.requests.LawfulRequests.{requests_of_run}
 use Rattle.pct_cancel_laws.proofs.requests.PendingRequests.{pending_of_run}
+use Rattle.pct_creation_laws.proofs.creations.NewProcesses.{new_processes_of_run}
+use Rattle.pct_creation_laws.proofs.creations.NewThreads.{new_threads_of_run}
+use Rattle.pct_creation_laws.proofs.forks.CalledHandlers.{fork_handlers_of_run}
 use Rattle.pct_ending_laws.proofs.results.ForkAnswers.{answers_of_run}
 use Rattle.pct_ending_laws.proofs.results.KeptVariables.{globals_of_run, locals_of_run, values_of_run}
 use Rattle.pct_ending_laws.proofs.results.OtherProcesses.{processes_of_run as other_processes_of_run}
@@ -113,6 +118,11 @@ every_run_keeps_laws script config entries r is = record {
     processes = other_processes_of_run script config entries;
   };
   frames = frame_law script config entries;
+  created = record {
+    threads = each_step script config (CreatesThreads script) (new_threads_of_run script config) entries;
+    processes = new_processes_of_run script config entries;
+  };
+  forks = each_step script config (KeepsFork script) (fork_handlers_of_run script config) entries;
   joins = joins_of_run script config entries r is;
   conds = each_both (λ e earlier. owners_allow e earlier && waits_allow e earlier) hand_ons_allow r.events (each_both owners_allow waits_allow r.events (owners_of_run script config entries r is) (waits_of_run script config entries r is)) (hand_ons_of_run script config entries r is);
   wakes = wake_law script config entries (each_step script config (λ s. says_statement config.slots script s ≡ true) (says_statements_of_run script config) entries);

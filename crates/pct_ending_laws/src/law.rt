@@ -22,6 +22,10 @@ ghost use Rattle.pct_ending_laws.specs.EndingLaws.{RunsKeepLaws, StatesAreKept};
 ///   a step changes no other value of another thread, and no thread of another process.
 /// - A function is called at its first statement, on top of its callers, and executes its statements in turn; it goes by a return of its
 ///   own, or with all others as its thread begins to end or to exit its process; and a step changes no frame of another thread.
+/// - pthread_create makes one thread, which executes its start routine with the argument, and fork one process, with a copy of the
+///   state of its parent and the replica of the thread that called it; no other step makes a thread or a process.
+/// - fork calls the fork handlers that were registered at its call: the prepare handlers, the newest first, then the parent and the
+///   child handlers, the oldest first. It makes a process, and returns, with none of them left to call.
 /// - Each join that returns gets the value of a thread that has ended, no thread is joined twice or while it is detached, and no
 ///   request and no detach names a thread that is not known, or that has both ended and been joined or detached.
 /// - Each mutex is acquired while no thread owns it, and released by its owner; a condition wait that released its mutex goes on

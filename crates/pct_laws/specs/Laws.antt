@@ -10,8 +10,10 @@ use Rattle.pct_laws.specs.Each.{each}
 use Rattle.pct_laws.specs.Once as Once
 use Rattle.pct_laws.specs.SlotLaw as SlotLaw
 use Rattle.pct_laws.specs.CondLaw as CondLaw
+use Rattle.pct_laws.specs.CreationLaw.{CreationLaw}
 use Rattle.pct_laws.specs.Ends.{Ends}
 use Rattle.pct_laws.specs.FrameLaw.{FrameLaw}
+use Rattle.pct_laws.specs.ForkLaw.{ForkLaw}
 use Rattle.pct_laws.specs.JoinLaw as JoinLaw
 use Rattle.pct_laws.specs.ProcessLaw as ProcessLaw
 use Rattle.pct_laws.specs.RanAll as RanAll
@@ -52,6 +54,11 @@ pub record Laws (script : Script) (config : Config) (entries : List Entry) (r : 
   -- a function is called at its first statement, on top of its callers, executes its statements in turn, and goes by a return of its own, or
   -- with all others as its thread begins to end or to exit its process; and a step changes no frame of another thread
   pub frames : FrameLaw script config entries
+  -- pthread_create makes one thread, which executes its start routine, and fork one process, with a copy of the state of its parent and the
+  -- replica of the thread that called fork; no other step makes a thread or a process
+  pub created : CreationLaw script config entries
+  -- fork calls the fork handlers that were registered at its call, in their order; it makes a process, and returns, with none left to call
+  pub forks : ForkLaw script config entries
   -- each join that returns gets the value of a thread that has ended, no thread is joined twice or while it is detached, and no
   -- request or detach names a thread outside the lifetime of its id
   pub joins : each JoinLaw.allows r.events ≡ true

@@ -31,5 +31,7 @@ pub mod CondLaw
 pub mod WakeLaw
 pub mod SharedLaw
 pub mod SlotLaw
+pub mod CreationLaw
+pub mod ForkLaw
 pub mod ProcessLaw
 pub mod Laws

@@ -8,9 +8,10 @@ use Rattle.std.specs.List.{list_any}
 use Rattle.pct_model.specs.declared.event.Event.{Event}
 use Rattle.pct_model.specs.declared.event.What.{What}
 use Rattle.pct_model.specs.declared.event.What.TheVariants as what
+use Rattle.pct_model.specs.declared.state.Reason.{Reason}
+use Rattle.pct_model.specs.declared.state.Reason.TheVariants as reason
 use Rattle.pct_model.specs.LineParsing.{is_empty}
 use Rattle.pct_model.specs.StopTable.{has_begun_to_end}
-use Rattle.pct_model.specs.ThreadEnds.{end_value}
 use Rattle.pct_laws.specs.ThreadSummary.{ThreadSummary, summary_of}
 
 -- the pair of a pass and a key, or of a function and its argument
@@ -21,6 +22,16 @@ is_pair pass key pair = nat_eq pair.0 pass && nat_eq pair.1 key
 abbrev pub is_newest : ℕ → ℕ → List (ℕ × ℕ) → Bool
 is_newest f a [] = false
 is_newest f a (handler ∷ older) = is_pair f a handler
+
+-- the value PTHREAD_CANCELED: this number is a choice of this host (XBD pthread.h)
+abbrev pub PTHREAD_CANCELED : ℕ
+PTHREAD_CANCELED = 4294967295
+
+-- the value with which a thread ends, by the reason for its end (XSH pthread_exit, 2.9.5.3)
+abbrev pub value_of_end : Reason → ℕ
+value_of_end reason.None = 0
+value_of_end (reason.Exit v) = v
+value_of_end reason.Canceled = PTHREAD_CANCELED
 
 module _ (passes : ℕ) where
   -- what the law asks of an event of a thread, by the summary of the thread before it
@@ -35,7 +46,7 @@ module _ (passes : ℕ) where
   may_come what.EndingCanceled s = not (has_begun_to_end s.reason)
   may_come (what.EndingInWait c m) s = not (has_begun_to_end s.reason)
   -- a thread ends once, after its ending event, with no open handler, and with the value of its reason (XSH pthread_exit, 2.9.5.3)
-  may_come (what.EndedWith v) s = has_begun_to_end s.reason && is_none s.ended && is_empty s.handlers && nat_eq v (end_value s.reason)
+  may_come (what.EndedWith v) s = has_begun_to_end s.reason && is_none s.ended && is_empty s.handlers && nat_eq v (value_of_end s.reason)
   -- a pass over the destructors begins after the ending event, with no open handler (XSH 2.9.5.3); the passes are numbered from 1,
   -- up to their limit (XSH pthread_key_create)
   may_come (what.PassBegun n) s = has_begun_to_end s.reason && is_empty s.handlers && nat_eq n (suc s.passes) && nat_le n passes

@@ -1,4 +1,4 @@
--- What a step does to a process other than that of its thread, for the laws that speak of steps.
+-- What a step does to the processes, and to one other than that of its thread, for the laws that speak of steps.
 use Rattle.std.specs.Prelude.{◌≡◌, ◌≢◌, ℕ, List, ◌∷◌, ◌++◌, Option, Some}
 use Rattle.pct_model.specs.declared.schedule.Config.{Config}
 use Rattle.pct_model.specs.declared.schedule.Entry.{Entry}
@@ -21,3 +21,10 @@ abbrev pub EachOtherProcess : Script → Config → List Entry → (ThreadStep �
 EachOtherProcess script config entries Holds =
     (before after : List Entry) (e : Entry) (r : Run) (s : ThreadStep) (pid : ℕ) (p : Option Process) (q : Process)
     → before ++ e ∷ after ≡ entries → run script config before ≡ Some r → IsOfOtherProcess script config r e s pid p q → Holds s p q
+
+-- the fact is true of each step of the run of a schedule, and of the processes before and after it
+abbrev pub EachStepOfProcesses : Script → Config → List Entry → (ThreadStep → List Process → List Process → Type 0) → Type 0
+EachStepOfProcesses script config entries Holds =
+    (before after : List Entry) (e : Entry) (r : Run) (s : ThreadStep)
+    → before ++ e ∷ after ≡ entries → run script config before ≡ Some r → (step : IsThreadStep script config r e s)
+    → Holds s r.world.processes (legal_step script config r.world e step.legal).world.processes

@@ -89,6 +89,13 @@ with_no_other_argument = refl
 no_handler_that_was_popped_ran : refuses RanAll.allows (ended ∷ event (what.HandlerRun 1 10) ∷ event (what.EndingExit 5) ∷ event (what.Popped 1 10 false) ∷ event (what.Pushed 1 10) ∷ []) ≡ true
 no_handler_that_was_popped_ran = refl
 
+-- a thread begins to end at its first ending event
+no_handler_is_popped_before_a_second_one : refuses RanAll.allows (event (what.EndedWith 0) ∷ event (what.EndingExit 0) ∷ event (what.Popped 1 10 false) ∷ event (what.EndingExit 0) ∷ event (what.Pushed 1 10) ∷ []) ≡ true
+no_handler_is_popped_before_a_second_one = refl
+
+nor_pushed_before_it : refuses RanAll.allows (event (what.EndedWith 0) ∷ event (what.HandlerRun 1 10) ∷ event (what.EndingExit 0) ∷ event (what.Pushed 1 10) ∷ event (what.EndingExit 0) ∷ []) ≡ true
+nor_pushed_before_it = refl
+
 a_handler_does_not_run_for_another_thread : refuses RanAll.allows (ended ∷ other (what.HandlerRun 1 10) ∷ other (what.HandlerRun 2 20) ∷ begun) ≡ true
 a_handler_does_not_run_for_another_thread = refl
 

@@ -11,11 +11,11 @@ use Rattle.pct_rows.proofs.OnLiterals.{checks_on_literals, runs_on_literals}
 -- ---- abbreviations
 
 -- a script of these functions is well-formed
-abbrev are_static : List Func → Bool
+abbrev pub are_static : List Func → Bool
 are_static funcs = is_static (record { globals = []; mutexes = []; conds = []; sems = []; funcs = funcs })
 
 -- a function with the parameter `x`, these statements and its closing `end`
-abbrev function : List ℕ → List Stmt → Func
+abbrev pub function : List ℕ → List Stmt → Func
 function name body = record { name = name; locals = codes "x" ∷ []; body = body ++ statement.End ∷ [] }
 
 abbrev returns_0 : Stmt

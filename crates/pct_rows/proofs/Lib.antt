@@ -23,6 +23,8 @@ mod ValueRows
 mod FrameRows
 mod WakeRows
 mod SharedRows
+mod CreationRows
+mod ForkLawRows
 mod OneLawRows
 mod OptionRows
 mod EventRows

@@ -73,6 +73,9 @@ a_handler_that_a_handler_pushed_is_popped = refl
 canceled : keeps (of (what.EndedWith 4294967295) ∷ of what.EndingCanceled ∷ []) ≡ true
 canceled = refl
 
+and_not_0 : refused (of (what.EndedWith 0) ∷ of what.EndingCanceled ∷ []) ≡ true
+and_not_0 = refl
+
 pthread_exit_begins_no_second_end : refused (of (what.EndingExit 6) ∷ begun) ≡ true
 pthread_exit_begins_no_second_end = refl
 

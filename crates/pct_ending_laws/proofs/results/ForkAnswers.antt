@@ -1,16 +1,14 @@
 -- The law of results, of the answer of fork: the event by which a process is made, or not, gives it to the thread, which keeps it until its fork
 -- returns.
-use Rattle.pct_names.proofs.Names.{[], ap, body_at, Bool, cond, Config, Entry, false, ForkAt, Frame, is_live_thread, is_some, List, moved}
+use Rattle.pct_names.proofs.Names.{[], ap, body_at, Bool, cond, Config, Entry, false, ForkAt, is_live_thread, List, moved}
 use Rattle.pct_names.proofs.Names.{next_of, NextStatement, None, none-some, Option, option_and_then, option_map, Others, others_of}
-use Rattle.pct_names.proofs.Names.{own_after, OwnAction, Process, refl, Run, run, same_Some, Script, SharedState, Some, Status, Stmt, sym}
+use Rattle.pct_names.proofs.Names.{own_after, Process, refl, Run, run, same_Some, Script, SharedState, Some, Status, Stmt, sym}
 use Rattle.pct_names.proofs.Names.{Thread, thread_at, thread_moved, thread_with, Transition, transition_by, true, What, ℕ, ◌∙◌, ◌∷◌, ◌≡◌}
 use Rattle.std.proofs.lemmas.Bool.{true≢false}
-use Rattle.pct_model.specs.declared.state.Status.TheVariants as status
-use Rattle.pct_model.specs.declared.transition.OwnAction.TheVariants as own_action
-use Rattle.pct_laws.specs.Kept.{is_in_fork_handler}
 use Rattle.pct_laws.specs.ResultLaw.{answer_by, fork_answer, answer_in, calls_fork, KeepsAnswer}
 use Rattle.pct_transition_cases.proofs.TransitionCases.{TransitionCase, fork_begun, fork_handler_called, fork_handler_left, process_forked}
 use Rattle.pct_transition_cases.proofs.TransitionCases.{process_not_forked, fork_failed, fork_returned}
+use Rattle.pct_creation_laws.proofs.forks.ForkSteps.{HasNone, has_none, leaves_fork}
 use Rattle.pct_process_laws.proofs.ForksOfRun.{forks_of_run}
 use Rattle.pct_thread_invariants.proofs.lift.ChangedThreads.{named_keeps, same_settled}
 use Rattle.pct_thread_invariants.proofs.lift.EveryProcess.{moves_of_run, process_taken}
@@ -19,24 +17,6 @@ use Rattle.pct_thread_invariants.proofs.lift.MadeThreads.{IsLive}
 use Rattle.pct_thread_invariants.proofs.lift.TakenSteps.{IsTaken}
 use Rattle.pct_thread_invariants.proofs.lift.ThreadsAfter.{Moves, mover}
 use Rattle.pct_thread_invariants.proofs.lift.MovedThreads.{EveryStep, step_of, case_of_step, every_step}
-
--- a thread that is in fork has no values that are kept for one of its handlers
-abbrev HasNone : Status → Option ForkAt → Type 0
-HasNone (status.Forking phase index length answer) kept = kept ≡ None
-HasNone _ kept = Unit {0}
-
-has_none : (s : Status) (frames : List Frame) (kept : Option ForkAt) → is_some kept ≡ is_in_fork_handler s frames → HasNone s kept
-has_none (status.Forking phase index length answer) frames None is = refl
-has_none (status.Forking phase index length answer) frames (Some at) is = absurd (true≢false is)
-has_none _ frames kept is = tt
-
--- after the action, if there is one, the thread is in no fork
-abbrev leaves_fork : Option OwnAction → Bool
-leaves_fork (Some (own_action.Leave status)) = true
-leaves_fork (Some (own_action.BeginEnd why)) = true
-leaves_fork (Some own_action.BeginExit) = true
-leaves_fork (Some own_action.EndLast) = true
-leaves_fork _ = false
 
 module _ (passes : ℕ) (body : List Stmt) (shared : SharedState) (t : Thread) (others : Others) where
   -- the thread with a status

@@ -13,7 +13,7 @@ use Rattle.pct_model.specs.declared.state.Status.TheVariants as status
 use Rattle.pct_model.specs.declared.transition.OwnAction.TheVariants as own_action
 use Rattle.pct_model.specs.declared.transition.SharedAction.TheVariants as shared_action
 use Rattle.pct_laws.specs.Kept.{AreOpen, open_functions, IsSuspendedAt}
-use Rattle.pct_laws.specs.Once.{is_newest, may_come}
+use Rattle.pct_laws.specs.Once.{is_newest, may_come, value_of_end}
 use Rattle.pct_laws.specs.OpenPushes.{open_pushes}
 use Rattle.pct_laws.specs.ThreadSummary.{ThreadSummary, with_ending}
 use Rattle.pct_thread_invariants.proofs.StaticPushes.{PushesMatch}
@@ -43,6 +43,12 @@ pub not_begun : (why : Reason) → has_begun_to_end why ≡ false → why ≡ re
 not_begun reason.None e = refl
 not_begun (reason.Exit v) e = absurd (false≢true (sym e))
 not_begun reason.Canceled e = absurd (false≢true (sym e))
+
+-- a thread ends with the value of its reason
+same_value : (why : Reason) → end_value why ≡ value_of_end why
+same_value reason.None = refl
+same_value (reason.Exit v) = refl
+same_value reason.Canceled = refl
 
 module _ (script : Script) (passes : ℕ) where
   -- ---- threads with frames
@@ -245,7 +251,7 @@ module _ (script : Script) (passes : ℕ) where
 
       -- the event of its end, after events that do not change what is reported of it
       pub end_lawful : may_come passes (what.EndedWith (end_value t.reason)) reported ≡ true
-      end_lawful = and_from _ _ (and_from _ _ (and_from _ _ begun (ap is_none fits.by_status.not_ended)) (ap is_empty fits.agrees.handlers_agree)) (eq-eqb _ _ (ap end_value (sym fits.agrees.reason)))
+      end_lawful = and_from _ _ (and_from _ _ (and_from _ _ begun (ap is_none fits.by_status.not_ended)) (ap is_empty fits.agrees.handlers_agree)) (eq-eqb _ _ (same_value t.reason ∙ ap value_of_end (sym fits.agrees.reason)))
 
       -- the event of due keys that are left
       pub leftover_lawful : (left : ℕ) → 0 < left → passes ≤ t.pass → AllMayCome passes (what.Leftover left ∷ []) reported

@@ -1,0 +1,2 @@
+pub mod creations
+pub mod forks

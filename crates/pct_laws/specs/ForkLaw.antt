@@ -1,0 +1,110 @@
+-- The law of fork handlers: fork calls those that were registered as it was called: before it makes a process the prepare handlers, the
+-- newest first, and after that the parent handlers, and in the child the child handlers, the oldest first. It makes a process, or fails to,
+-- and returns only with none of them left to call (XSH pthread_atfork, fork). That the parent handlers are called also where no process is
+-- made is a choice of this host.
+--
+-- It leaves open whether a handler returns, and what it does.
+use Rattle.std.specs.Prelude.{◌≡◌, ◌≢◌, ◌⊎◌, ℕ, Bool, true, false, List, [], ◌∷◌, length, take, drop, reverse, filter_map, is_some}
+use Rattle.std.specs.Prelude.{Option, Some, None, All}
+use Rattle.std.specs.List.{list_any}
+use Rattle.pct_model.specs.declared.event.What.{What}
+use Rattle.pct_model.specs.declared.event.What.TheVariants as what
+use Rattle.pct_model.specs.declared.process.ForkHandlers.{ForkHandlers}
+use Rattle.pct_model.specs.declared.schedule.Config.{Config}
+use Rattle.pct_model.specs.declared.schedule.Entry.{Entry}
+use Rattle.pct_model.specs.declared.script.Script.{Script}
+use Rattle.pct_model.specs.declared.state.ForkAt.{ForkAt}
+use Rattle.pct_model.specs.declared.state.Phase.{Phase}
+use Rattle.pct_model.specs.declared.state.Phase.TheVariants as phase
+use Rattle.pct_model.specs.declared.state.Status.{Status}
+use Rattle.pct_model.specs.declared.state.Status.TheVariants as status
+use Rattle.pct_model.specs.NextStatement.{next_of}
+use Rattle.pct_model.specs.StatusKinds.{is_forking}
+use Rattle.pct_model.specs.World.{Thread}
+use Rattle.pct_laws.specs.CancelLaw.{acts_or_stops}
+use Rattle.pct_laws.specs.ResultLaw.{answer_in, calls_fork}
+use Rattle.pct_laws.specs.ThreadSteps.{ThreadStep, EachStep}
+
+-- ---- the handlers of a fork
+
+-- the fork of a thread with this status and these kept values: the thread is in fork, or in one of its handlers
+abbrev pub fork_by : Status → Option ForkAt → Option ForkAt
+fork_by (status.Forking phase next length answer) kept = Some (record { phase = phase; next = next; length = length; answer = answer })
+fork_by s kept = kept
+
+-- the fork of a thread
+abbrev pub fork_of : Thread → Option ForkAt
+fork_of t = fork_by t.status t.kept
+
+-- the handlers of a phase that are left to call, in their order: before the fork those of the first registrations, as many as this number,
+-- the newest first; after it those from this number on, of as many registrations as there were at the call
+abbrev pub left_in : List ForkHandlers → Phase → ℕ → ℕ → List ℕ
+left_in registered phase.Prepare next count = filter_map (λ h. h.prepare) (reverse (take next registered))
+left_in registered phase.Parent next count = filter_map (λ h. h.parent) (drop next (take count registered))
+left_in registered phase.Child next count = filter_map (λ h. h.child) (drop next (take count registered))
+
+-- the handlers that a fork has left to call
+abbrev pub left_to_call : List ForkHandlers → ForkAt → List ℕ
+left_to_call registered fork = left_in registered fork.phase fork.next fork.length
+
+-- a fork as it is called, with this number of registrations: each prepare handler is left
+abbrev pub begun_with : ℕ → ForkAt
+begun_with count = record { phase = phase.Prepare; next = count; length = count; answer = 0 }
+
+-- ---- the law of a step
+
+-- the thread is in a phase of a fork, and the handler that it calls is the first that is left: the others are left then
+pub record CallsHandler (at : Phase) (f : ℕ) (s : ThreadStep) : Type 0 where
+  pub fork : ForkAt
+  pub fork_after : ForkAt
+  pub before : fork_of s.before ≡ Some fork
+  pub after : fork_of s.after ≡ Some fork_after
+  pub in_phase : fork.phase ≡ at
+  pub next : left_to_call s.process.shared.fork_handlers fork ≡ f ∷ left_to_call s.process.shared.fork_handlers fork_after
+  -- the phase and the registrations stay
+  pub same_phase : fork_after.phase ≡ at
+  pub same_length : fork_after.length ≡ fork.length
+
+-- at the event of a call of a fork handler
+abbrev pub EachHandler : What → ThreadStep → Type 0
+EachHandler (what.PrepareRun f) s = CallsHandler phase.Prepare f s
+EachHandler (what.ParentRun f) s = CallsHandler phase.Parent f s
+EachHandler (what.ChildRun f) s = CallsHandler phase.Child f s
+EachHandler _ s = Unit {0}
+
+-- the event is that a fork handler is called
+abbrev pub is_handler_call : What → Bool
+is_handler_call (what.PrepareRun f) = true
+is_handler_call (what.ParentRun f) = true
+is_handler_call (what.ChildRun f) = true
+is_handler_call _ = false
+
+-- a process is made, or cannot be made: no prepare handler is left, and the parent handlers of the same registrations are next
+pub record ForksWithNoneLeft (s : ThreadStep) : Type 0 where
+  pub fork : ForkAt
+  pub fork_after : ForkAt
+  pub before : fork_of s.before ≡ Some fork
+  pub after : fork_of s.after ≡ Some fork_after
+  pub prepared : fork.phase ≡ phase.Prepare
+  pub none_left : left_to_call s.process.shared.fork_handlers fork ≡ []
+  pub next : fork_after.phase ≡ phase.Parent
+  pub all_left : fork_after.next ≡ 0
+  pub same_length : fork_after.length ≡ fork.length
+
+-- what a step does to the fork of its thread
+pub record KeepsFork (script : Script) (s : ThreadStep) : Type 0 where
+  -- fork is called, unless the thread acts upon a request or the call is a stop
+  pub begun : calls_fork (next_of script s.before.frames) s.before.status ≡ true → acts_or_stops s.events ≡ false
+      → fork_of s.after ≡ Some (begun_with (length s.process.shared.fork_handlers))
+  pub called : All (λ w. EachHandler w s) s.events
+  pub made : is_some (answer_in s.events) ≡ true → ForksWithNoneLeft s
+  -- a thread in fork returns from it after it got its answer, and with none left
+  pub returned : (fork : ForkAt) → is_forking s.before.status ≡ true → fork_of s.before ≡ Some fork → fork_of s.after ≡ None
+      → (left_to_call s.process.shared.fork_handlers fork ≡ []) × (fork.phase ≢ phase.Prepare)
+  -- any other step keeps the fork, or ends it
+  pub kept : calls_fork (next_of script s.before.frames) s.before.status ≡ false → is_some (answer_in s.events) ≡ false
+      → list_any is_handler_call s.events ≡ false → (fork_of s.after ≡ fork_of s.before) ⊎ (fork_of s.after ≡ None)
+
+-- the law of fork handlers, of the run of a schedule
+abbrev pub ForkLaw : Script → Config → List Entry → Type 0
+ForkLaw script config entries = EachStep script config entries (KeepsFork script)
