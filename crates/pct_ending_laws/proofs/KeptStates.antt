@@ -50,6 +50,7 @@ use Rattle.pct_ending_laws.proofs.steps.KeptValues.{keeps_values_of_run}
 use Rattle.pct_ending_laws.proofs.steps.MadeFrames.{says_calls_of_run}
 use Rattle.pct_thread_invariants.proofs.lift.MovedThreads.{each_step}
 use Rattle.pct_ending_laws.proofs.steps.NamedWaits.{suspends_of_run, names_of_run}
+use Rattle.pct_ending_laws.proofs.StepsOfRuns.{steps_of_run}
 use Rattle.pct_ending_laws.proofs.steps.SaidStatements.{says_statements_of_run}
 use Rattle.pct_cancel_laws.proofs.waits.WaitsOfRun.{waits_of_run, hand_ons_of_run, calls_of_run, waits_kept_of_run}
 
@@ -74,6 +75,7 @@ kept_joins_of_run script config entries r is pid tid t made here id joins =
 -- the laws of every run
 pub every_run_keeps_laws : RunsKeepLaws
 every_run_keeps_laws script config entries r is = record {
+  steps = steps_of_run script config entries r is;
   once = once_of_run script config entries r is;
   ran_all = ran_all config.passes r.events (once_of_run script config entries r is) (processes_of_run script config entries r is);
   after_end = after_end_of_run script config entries r is;
