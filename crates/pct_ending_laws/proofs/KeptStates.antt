@@ -56,6 +56,7 @@ use Rattle.pct_ending_laws.proofs.steps.KeptValues.{keeps_values_of_run}
 use Rattle.pct_ending_laws.proofs.steps.MadeFrames.{says_calls_of_run}
 use Rattle.pct_thread_invariants.proofs.lift.MovedThreads.{each_step}
 use Rattle.pct_ending_laws.proofs.steps.NamedWaits.{suspends_of_run, names_of_run}
+use Rattle.pct_ending_laws.proofs.StepsOfRuns.{steps_of_run}
 use Rattle.pct_ending_laws.proofs.steps.SaidStatements.{says_statements_of_run}
 use Rattle.pct_wake_laws.proofs.SharedChanges.{shared_law}
 use Rattle.pct_wake_laws.proofs.WakeLawKept.{wake_law}
@@ -82,6 +83,7 @@ kept_joins_of_run script config entries r is pid tid t made here id joins =
 -- the laws of every run
 pub every_run_keeps_laws : RunsKeepLaws
 every_run_keeps_laws script config entries r is = record {
+  steps = steps_of_run script config entries r is;
   once = once_of_run script config entries r is;
   ran_all = ran_all config.passes r.events (once_of_run script config entries r is) (processes_of_run script config entries r is);
   after_end = after_end_of_run script config entries r is;

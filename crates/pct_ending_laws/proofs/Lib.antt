@@ -1,4 +1,5 @@
 pub mod KeyEvents
+pub mod StepsOfRuns
 pub mod steps
 pub mod results
 pub mod ends

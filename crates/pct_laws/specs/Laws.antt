@@ -20,12 +20,15 @@ use Rattle.pct_laws.specs.RanAll as RanAll
 use Rattle.pct_laws.specs.ResultLaw.{ResultLaw}
 use Rattle.pct_laws.specs.SharedLaw.{SharedLaw}
 use Rattle.pct_laws.specs.StatementLaw.{StatementLaw}
+use Rattle.pct_laws.specs.ThreadSteps.{EachHasStep}
 use Rattle.pct_laws.specs.ValueLaw.{ValueLaw}
 use Rattle.pct_laws.specs.WakeLaw.{WakeLaw}
 use Rattle.pct_model.specs.Run.{Run}
 
 -- the laws of the run of a schedule, and of its events, newest first
 pub record Laws (script : Script) (config : Config) (entries : List Entry) (r : Run) : Type 0 where
+  -- each entry of the schedule makes a step, so the laws of steps below speak of each of them
+  pub steps : EachHasStep script config entries
   -- no cleanup handler is removed twice, the newest is removed first, a thread ends once, with none left, and after its handlers no
   -- key has two events of its destructor in a pass
   pub once : each (Once.allows config.passes) r.events ≡ true

@@ -37,3 +37,9 @@ abbrev pub EachStep : Script → Config → List Entry → (ThreadStep → Type 
 EachStep script config entries Holds =
     (before after : List Entry) (e : Entry) (r : Run) (s : ThreadStep)
     → before ++ e ∷ after ≡ entries → run script config before ≡ Some r → IsThreadStep script config r e s → Holds s
+
+-- each entry of a schedule with a run makes a step, so a fact that is true of each step is one of each entry
+abbrev pub EachHasStep : Script → Config → List Entry → Type 0
+EachHasStep script config entries =
+    (before after : List Entry) (e : Entry) → before ++ e ∷ after ≡ entries
+    → (r : Run) × ((run script config before ≡ Some r) × ((s : ThreadStep) × IsThreadStep script config r e s))

@@ -1,7 +1,7 @@
 -- Each step of a run: the thread that makes it is moved by a transition, the events of which are those of the step.
 use Rattle.pct_names.proofs.Names.{[], after_transition, AllByRecursion, and_parts, ap, body_at, Bool, changed, Config, Entry, find, Legal}
 use Rattle.pct_names.proofs.Names.{List, list_all, made_process, made_thread, nat_eq, next_of, Option, option_and_then, option_map}
-use Rattle.pct_names.proofs.Names.{option_or, others_of, Process, process_moved, Run, run, same_Some, Script, Some, subst, sym, Thread}
+use Rattle.pct_names.proofs.Names.{option_or, others_of, Process, process_moved, refl, Run, run, same_Some, Script, Some, subst, sym, Thread}
 use Rattle.pct_names.proofs.Names.{thread_created, thread_moved, thread_with, Transition, transition_by, true, What, World, ◌∙◌, ◌∷◌, ◌≡◌}
 use Rattle.pct_laws.specs.ThreadSteps.{ThreadStep, IsThreadStep, EachStep}
 use Rattle.pct_transition_cases.proofs.CaseOfTransition.{case_of}
@@ -72,6 +72,24 @@ module _ (script : Script) (config : Config) where
         ap (option_and_then (thread_with e.tid)) changed_is ∙ own_thread_with e.pid e.tid o p e.tid
         ∙ ap (λ (u : Option Thread). option_or (option_map (thread_moved e.tid o) u) (find (λ (x : Thread). nat_eq x.id e.tid) (thread_created o.created))) (mover script config r.world p e t moves).found
 
+  -- a legal entry, after a run, takes its transition
+  abbrev taken_by : (r : Run) (e : Entry) (legal : Legal script config r.world e) → IsTaken script config r.world e legal.process legal.thread
+  taken_by r e legal = record { running = legal.running; is_process = legal.live; is_thread = legal.holds; offered = legal.offered }
+
+  -- and makes this step
+  pub makes_step : (before : List Entry) (r : Run) → run script config before ≡ Some r → (e : Entry) (legal : Legal script config r.world e) → IsThreadStep script config r e (step_of r legal.process e legal.thread)
+  makes_step before r is e legal = record {
+    legal = legal;
+    pid = refl;
+    tid = refl;
+    earlier = refl;
+    process = refl;
+    before = refl;
+    process_after = changed_is before r is e legal.process legal.thread (taken_by r e legal);
+    after = moved_is before r is e legal.process legal.thread (taken_by r e legal);
+    events = refl;
+  }
+
   -- what holds of each step of an entry that moves a thread, holds of each step that goes on from a run
   pub every_step : (Holds : ThreadStep → Type 0)
       → ((before : List Entry) (r : Run) → run script config before ≡ Some r → (e : Entry) (p : Process) (t : Thread) → IsTaken script config r.world e p t → Holds (step_of r p e t))
@@ -81,7 +99,7 @@ module _ (script : Script) (config : Config) where
       let p : Process = legal.process in
       let t : Thread = legal.thread in
       let o : Transition = transition_by script config r.world p t e.alt in
-      let taken : IsTaken script config r.world e p t = record { running = legal.running; is_process = legal.live; is_thread = legal.holds; offered = legal.offered } in
+      let taken : IsTaken script config r.world e p t = taken_by r e legal in
       let process_after : changed e.tid o p ≡ s.process_after = same_Some (changed e.tid o p) s.process_after (sym (changed_is before r is e p t taken) ∙ step.process_after) in
       let after : thread_moved e.tid o t ≡ s.after = same_Some (thread_moved e.tid o t) s.after (sym (moved_is before r is e p t taken) ∙ step.after) in
       subst (λ q. Holds (record s { process = q })) step.process
