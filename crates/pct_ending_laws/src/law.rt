@@ -21,7 +21,8 @@ ghost use Rattle.pct_ending_laws.specs.EndingLaws.{RunsKeepLaws, StatesAreKept};
 /// - pthread_setspecific gives its thread the value of the operand; a new thread has NULL for each key, and each thread for a new key;
 ///   a step changes no other value of another thread, and no thread of another process.
 /// - A function is called at its first statement, on top of its callers, and executes its statements in turn; it goes by a return of its
-///   own, or with all others as its thread begins to end or to exit its process; and a step changes no frame of another thread.
+///   own, or with all others as its thread begins to end or to exit its process; and a step changes no frame of another thread. From
+///   the call of a handler as it ends to the next one, a thread is in the handler, unless that has returned or exited the process.
 /// - Each join that returns gets the value of a thread that has ended, no thread is joined twice or while it is detached, and no
 ///   request and no detach names a thread that is not known, or that has both ended and been joined or detached.
 /// - Each mutex is acquired while no thread owns it, and released by its owner; a condition wait that released its mutex goes on
