@@ -204,6 +204,13 @@ MACHINES = (
     Machine("fork_passes_over_a_handler", "ForkLaw", "forks/LeftHandlers", "ForkCalls",
             "{ next = if is_prepare at.phase then index else suc index }",
             "{ next = if is_prepare at.phase then index else suc (suc index) }"),
+    Machine("handlers_return_at_once", "FrameLaw", "frames/MovedFrames", "Actions",
+            "thread_at (Some pc) t = record t { status = Running; frames = at_pc pc t.frames }",
+            "thread_at (Some pc) t = elim t.frames [ [] ↦ t | frame ∷ below ↦ elim frame.kind [ "
+            "kind.Handler ↦ record t { status = Ending; frames = [] } | _ ↦ record t { status = Running; frames = at_pc pc t.frames } ] ]"),
+    Machine("a_test_is_always_true", "FrameLaw", "frames/FrameCases", "ScriptStatements",
+            "after_test body pc v = if nat_eq v 0 then after_block body pc else suc pc",
+            "after_test body pc v = suc pc"),
 )
 
 

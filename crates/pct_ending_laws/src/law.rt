@@ -21,7 +21,8 @@ ghost use Rattle.pct_ending_laws.specs.EndingLaws.{RunsKeepLaws, StatesAreKept};
 /// - pthread_setspecific gives its thread the value of the operand; a new thread has NULL for each key, and each thread for a new key;
 ///   a step changes no other value of another thread, and no thread of another process.
 /// - A function is called at its first statement, on top of its callers, and executes its statements in turn; it goes by a return of its
-///   own, or with all others as its thread begins to end or to exit its process; and a step changes no frame of another thread.
+///   own, or with all others as its thread begins to end or to exit its process; and a step changes no frame of another thread. From
+///   the call of a handler as it ends to the next one, a thread is in the handler, unless that has returned or exited the process.
 /// - pthread_create makes one thread, which executes its start routine with the argument, and fork one process, with a copy of the
 ///   state of its parent and the replica of the thread that called it; no other step makes a thread or a process.
 /// - fork calls the fork handlers that were registered at its call: the prepare handlers, the newest first, then the parent and the

@@ -5,4 +5,5 @@ pub mod FrameCases
 pub mod BusyChoices
 pub mod BusyThreads
 pub mod OtherFrames
+pub mod HandlerFrames
 pub mod LawfulFrames

@@ -1,14 +1,16 @@
 -- The law of frames: in which functions a thread is, newest first, and where it goes on in each. A call, by `do` or as an event reports, puts
 -- its function on top, at the first statement; the statements of the top function are executed in turn, with the jumps of the script language;
 -- it goes by `return`, or by the `end` that closes it; and all go as the thread begins to end or to exit its process. A step changes no frame
--- of another thread (XSH 2.9.5.3, pthread_exit, pthread_cleanup_pop, pthread_key_create, pthread_atfork, fork, exit).
+-- of another thread. So a handler that is called as a thread ends is left only by its return, or by an exit of the process (XSH 2.9.5.3,
+-- pthread_exit, pthread_cleanup_pop, pthread_key_create, pthread_atfork, fork, exit).
 --
 -- It leaves open which functions the events report (Calls.antt), and the locals of functions that go on (ResultLaw.antt).
 use Rattle.std.specs.Prelude.{◌≡◌, ◌≢◌, ℕ, suc, if◌then◌else◌, Bool, true, false, ◌||◌, List, [], ◌∷◌, ◌++◌, length, map, flat_map, take, nat_eq}
-use Rattle.std.specs.Prelude.{Some, is_none, slice_index, unwrap_or}
+use Rattle.std.specs.Prelude.{Option, Some, None, is_none, slice_index, unwrap_or}
 use Rattle.std.specs.List.{list_any}
 use Rattle.std.specs.Option.{option_map_or}
 use Rattle.pct_model.specs.declared.event.Caller.TheVariants as caller
+use Rattle.pct_model.specs.declared.event.Event.{Event}
 use Rattle.pct_model.specs.declared.event.What.{What}
 use Rattle.pct_model.specs.declared.event.What.TheVariants as what
 use Rattle.pct_model.specs.declared.frame.Frame.{Frame}
@@ -22,6 +24,7 @@ use Rattle.pct_model.specs.declared.statement.Stmt.TheVariants as statement
 use Rattle.pct_model.specs.Jumps.{close_of, holds, is_while, open_of}
 use Rattle.pct_model.specs.NextStatement.{NextStatement, NoStatement, StatementIn, next_of, body_at}
 use Rattle.pct_model.specs.World.{Thread, thread_with, value_of}
+use Rattle.pct_laws.specs.KnownThreads.{is_own}
 use Rattle.pct_laws.specs.ResultLaw.{calls_fork}
 use Rattle.pct_laws.specs.ThreadSteps.{ThreadStep, EachStep}
 
@@ -127,9 +130,35 @@ KeepsOtherFrames s =
     (tid : ℕ) (before after : Thread) → tid ≢ s.tid → thread_with tid s.process ≡ Some before → thread_with tid s.process_after ≡ Some after
     → after.frames ≡ before.frames
 
+-- ---- handlers of an end
+
+-- by this event a thread is in one function alone: a cleanup handler or a destructor of its end, or a function of an exit
+abbrev pub calls_alone : What → Bool
+calls_alone (what.HandlerRun f a) = true
+calls_alone (what.DtorRun pass key f v) = true
+calls_alone (what.ExitRun f) = true
+calls_alone _ = false
+
+-- the newest such event of thread tid of process pid, if it has one
+abbrev pub newest_call : ℕ → ℕ → List Event → Option What
+newest_call pid tid [] = None
+newest_call pid tid (e ∷ earlier) = if is_own pid tid e then (if calls_alone e.what then Some e.what else newest_call pid tid earlier) else newest_call pid tid earlier
+
+-- the oldest of these places, if there is one, is in function f, called as a handler
+abbrev pub AreFrom : ℕ → List Place → Type 0
+AreFrom f [] = Unit {0}
+AreFrom f (place ∷ []) = (place.0 ≡ f) × (place.2 ≡ kind.Handler)
+AreFrom f (place ∷ next ∷ below) = AreFrom f (next ∷ below)
+
+-- each step of a thread, from the call of a handler as it ends to the next such event, is made in the handler or in what this calls, unless the
+-- thread has left it: by a return of it or an exit, as the law above says
+abbrev pub StaysInHandler : ThreadStep → Type 0
+StaysInHandler s = (f a : ℕ) → newest_call s.pid s.tid s.earlier ≡ Some (what.HandlerRun f a) → AreFrom f (places s.before.frames)
+
 -- ---- the law
 
 -- the law of frames, of the run of a schedule
 pub record FrameLaw (script : Script) (config : Config) (entries : List Entry) : Type 0 where
   pub frames : EachStep script config entries (MovesFrames script)
   pub others : EachStep script config entries KeepsOtherFrames
+  pub handlers : EachStep script config entries StaysInHandler

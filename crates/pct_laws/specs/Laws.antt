@@ -55,7 +55,8 @@ pub record Laws (script : Script) (config : Config) (entries : List Entry) (r : 
   -- a step changes no other value of another thread, and no thread of another process
   pub values : ValueLaw script config entries
   -- a function is called at its first statement, on top of its callers, executes its statements in turn, and goes by a return of its own, or
-  -- with all others as its thread begins to end or to exit its process; and a step changes no frame of another thread
+  -- with all others as its thread begins to end or to exit its process; and a step changes no frame of another thread. From the call of a
+  -- handler as it ends to the next one, a thread is in the handler, unless that has returned or exited the process
   pub frames : FrameLaw script config entries
   -- pthread_create makes one thread, which executes its start routine, and fork one process, with a copy of the state of its parent and the
   -- replica of the thread that called fork; no other step makes a thread or a process

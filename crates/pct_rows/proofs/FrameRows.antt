@@ -1,7 +1,8 @@
 -- The law of frames: made steps that keep it, and made steps that do not. Each step that does not differs from one that does in one thing, and
 -- has the name of the sentence that it breaks.
-use Rattle.pct_names.proofs.Names.{[], ap, arith, codes, false, first_process, Frame, FrameKind, Func, is_static, IsTrue, length, List}
-use Rattle.pct_names.proofs.Names.{new_frame, new_thread, refl, Script, slice_index, Status, Stmt, Thread, true, What, ℕ, ◌∷◌, ◌≡◌}
+use Rattle.pct_names.proofs.Names.{[], ap, arith, Bool, codes, false, false≢true, first_process, Frame, FrameKind, Func, is_static, IsTrue}
+use Rattle.pct_names.proofs.Names.{length, List, map, new_frame, new_thread, Option, refl, Script, slice_index, Some, Status, Stmt, Thread}
+use Rattle.pct_names.proofs.Names.{true, What, ℕ, ◌∷◌, ◌≡◌}
 use Rattle.pct_model.specs.declared.event.What.TheVariants as what
 use Rattle.pct_model.specs.declared.state.FrameKind.TheVariants as kind
 use Rattle.pct_model.specs.declared.state.Phase.TheVariants as phase
@@ -10,7 +11,7 @@ use Rattle.pct_model.specs.declared.statement.Dest.TheVariants as destination
 use Rattle.pct_model.specs.declared.statement.Operand.TheVariants as operand
 use Rattle.pct_model.specs.declared.statement.Stmt.TheVariants as statement
 use Rattle.pct_model.specs.declared.stop.Why.TheVariants as why
-use Rattle.pct_laws.specs.FrameLaw.{KeepsOtherFrames, MovesFrames, Place}
+use Rattle.pct_laws.specs.FrameLaw.{KeepsOtherFrames, MovesFrames, Place, StaysInHandler}
 use Rattle.pct_laws.specs.ThreadSteps.{ThreadStep}
 use Rattle.pct_rows.proofs.OnLiterals.{checks_on_literals, runs_on_literals}
 
@@ -289,3 +290,37 @@ no_other_thread_goes_on law =
     pc_of : List Frame → ℕ
     pc_of [] = 0
     pc_of (frame ∷ below) = frame.pc
+
+-- ---- handlers of an end
+
+-- a step of a thread in these functions after these events, newest first
+abbrev after : List What → List Frame → ThreadStep
+after earlier before = record (step status.Running before [] []) { earlier = map (λ (w : What). record { pid = 1; tid = 1; what = w }) earlier }
+
+-- what calls the function, and whether it is called as a handler
+abbrev function_of : Option What → ℕ
+function_of (Some (what.HandlerRun f a)) = f
+function_of _ = 0
+
+abbrev is_of_handler : Option What → Bool
+is_of_handler (Some (what.HandlerRun f a)) = true
+is_of_handler _ = false
+
+abbrev is_handler : FrameKind → Bool
+is_handler kind.Handler = true
+is_handler _ = false
+
+a_thread_stays_in_its_handler : StaysInHandler (after (what.Emit 4 ∷ what.HandlerRun 1 4 ∷ []) (work 1 4 kind.Handler ∷ []))
+a_thread_stays_in_its_handler f a same = (ap function_of same, refl)
+
+or_in_what_this_calls : StaysInHandler (after (what.HandlerRun 1 4 ∷ []) (work 0 7 kind.Call ∷ work 1 4 kind.Handler ∷ []))
+or_in_what_this_calls f a same = (ap function_of same, refl)
+
+it_is_in_no_other_function : StaysInHandler (after (what.HandlerRun 1 4 ∷ []) (record (main 1) { kind = kind.Handler } ∷ [])) → ⊥
+it_is_in_no_other_function law = let n : ◌≡◌ {A = ℕ} 0 1 = (law 1 4 refl).0 in omega (arith, n)
+
+and_is_there_as_in_a_handler : StaysInHandler (after (what.Emit 4 ∷ what.HandlerRun 1 4 ∷ []) (work 1 4 kind.Start ∷ [])) → ⊥
+and_is_there_as_in_a_handler law = absurd (false≢true (ap is_handler (law 1 4 refl).1))
+
+until_a_destructor_is_called : StaysInHandler (after (what.DtorRun 1 1 0 5 ∷ what.HandlerRun 1 4 ∷ []) (record (main 0) { kind = kind.Destructor } ∷ []))
+until_a_destructor_is_called f a same = absurd (false≢true (ap is_of_handler same))

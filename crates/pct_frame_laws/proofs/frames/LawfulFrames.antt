@@ -1,9 +1,9 @@
 -- The law of frames: what each step of a run does to the frames of its thread.
 use Rattle.pct_names.proofs.Names.{[], ap, ap₂, body_at, Bool, cond, Config, Entry, false, Frame, has_no_frame, List, made_thread, map}
-use Rattle.pct_names.proofs.Names.{moved, next_of, NextStatement, NoStatement, option_and_then, Others, others_of, Process, refl, Run, run}
+use Rattle.pct_names.proofs.Names.{moved, next_of, NextStatement, NoStatement, option_and_then, Others, others_of, Process, refl, run, Run}
 use Rattle.pct_names.proofs.Names.{Script, Some, sym, Thread, thread_moved, thread_with, Transition, transition_by, true, ◌∙◌, ◌≡◌}
 use Rattle.std.proofs.lemmas.Bool.{true≢false}
-use Rattle.pct_laws.specs.FrameLaw.{Call, FrameLaw, KeepsOtherFrames, MovesFrames, places, its_calls}
+use Rattle.pct_laws.specs.FrameLaw.{Call, FrameLaw, KeepsOtherFrames, MovesFrames, places, its_calls, StaysInHandler}
 use Rattle.pct_laws.specs.Kept.{ForkKept}
 use Rattle.pct_laws.specs.ThreadSummary.{ThreadSummary}
 use Rattle.pct_transition_cases.proofs.PlacedStatements.{is_placed}
@@ -20,6 +20,7 @@ use Rattle.pct_process_laws.proofs.ForksOfRun.{forks_of_run}
 use Rattle.pct_frame_laws.proofs.frames.BusyChoices.{always_busy}
 use Rattle.pct_frame_laws.proofs.frames.BusyThreads.{any_busy, no_frames}
 use Rattle.pct_frame_laws.proofs.frames.FrameCases.{case_calls, case_leaves, is_idle, LeavesIts}
+use Rattle.pct_frame_laws.proofs.frames.HandlerFrames.{stays_of_run}
 use Rattle.pct_frame_laws.proofs.frames.MovedFrames.{arguments_of, made, moved_arguments, moved_places}
 use Rattle.pct_frame_laws.proofs.frames.OtherFrames.{frames_by, others_of_run}
 
@@ -93,4 +94,5 @@ module _ (script : Script) (config : Config) where
   frame_law entries = record {
     frames = each_step script config (MovesFrames script) frames_of_run entries;
     others = each_step script config KeepsOtherFrames (others_of_run script config) entries;
+    handlers = each_step script config StaysInHandler (stays_of_run script config) entries;
   }

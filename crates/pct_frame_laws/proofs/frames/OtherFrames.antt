@@ -1,6 +1,6 @@
 -- A step changes no frame of another thread than its own.
 use Rattle.pct_names.proofs.Names.{and_left, ap, Bool, cond, Config, Entry, false, holds_slot, is_live_thread, List, moved, nat_eq}
-use Rattle.pct_names.proofs.Names.{none-some, Option, Process, refl, Run, run, same_Some, Script, Some, sym, Thread, thread_moved}
+use Rattle.pct_names.proofs.Names.{none-some, Option, Process, refl, run, Run, same_Some, Script, Some, sym, Thread, thread_moved}
 use Rattle.pct_names.proofs.Names.{thread_with, Transition, transition_by, ℕ, ◌∙◌, ◌≡◌, ◌≢◌}
 use Rattle.std.proofs.Common.{eqb-true, ne_eqb}
 use Rattle.pct_laws.specs.FrameLaw.{KeepsOtherFrames}
