@@ -3,12 +3,13 @@
 -- pthread_create, fork, pthread_setcancelstate).
 --
 -- It leaves open the thread-specific data of a new thread and of a replica (ValueLaw.antt), and which id a new thread gets (SlotLaw.antt).
-use Rattle.std.specs.Prelude.{◌≡◌, ℕ, Bool, false, not, ◌&&◌, List, [], ◌∷◌, length, map, take, drop, filter, flat_map, replicate}
+use Rattle.std.specs.Prelude.{◌≡◌, ℕ, ◌-◌, Bool, false, not, ◌&&◌, List, [], ◌∷◌, length, map, take, drop, filter, flat_map, replicate}
 use Rattle.std.specs.Prelude.{Option, Some, None, All, nat_eq}
 use Rattle.std.specs.List.{list_any}
 use Rattle.pct_model.specs.declared.event.What.{What}
 use Rattle.pct_model.specs.declared.event.What.TheVariants as what
 use Rattle.pct_model.specs.declared.frame.Frame.{Frame}
+use Rattle.pct_model.specs.declared.limits.TheConstants.{MAX_LOCALS}
 use Rattle.pct_model.specs.declared.schedule.Config.{Config}
 use Rattle.pct_model.specs.declared.schedule.Entry.{Entry}
 use Rattle.pct_model.specs.declared.script.Script.{Script}
@@ -51,7 +52,7 @@ pub record IsAtItsStart (t : Thread) : Type 0 where
 -- pthread_create. That the argument is read before the results are stored, and that other locals are 0, are choices of this host
 abbrev pub frames_at_start : List ℕ → NextStatement → Option (List Frame)
 frames_at_start globals (StatementIn frame (statement.Create result id start argument detached)) =
-    Some (record { func = start; pc = 0; locals = value_of globals frame argument ∷ replicate 7 0; kind = kind.Start } ∷ [])
+    Some (record { func = start; pc = 0; locals = value_of globals frame argument ∷ replicate (MAX_LOCALS - 1) 0; kind = kind.Start } ∷ [])
 frames_at_start globals _ = None
 
 -- a thread that a step creates (XSH pthread_create), with cancelability enabled and deferred (XSH pthread_setcancelstate)
@@ -79,7 +80,8 @@ abbrev pub status_in_child : Status → Option Status
 status_in_child (status.Forking phase.Prepare index registrations answer) = Some (status.Forking phase.Child 0 registrations 0)
 status_in_child _ = None
 
--- the replica of a thread, in the process that it makes (XSH fork)
+-- the replica of a thread, in the process that it makes (XSH fork). That it keeps the id, and that no request is pending for it, are choices
+-- of this host
 pub record IsReplica (t replica : Thread) : Type 0 where
   pub id : replica.id ≡ t.id
   pub frames : replica.frames ≡ t.frames
