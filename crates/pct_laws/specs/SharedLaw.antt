@@ -1,7 +1,7 @@
--- The law of what the threads of a process share, but for the globals (ResultLaw.antt) and the keys (Calls.antt): the owner of a mutex and the
--- count of a semaphore change by the events that say so alone (XSH pthread_mutex_lock, pthread_mutex_unlock, pthread_cond_wait, sem_wait,
--- sem_post); atexit and pthread_atfork register what they name, unless they fail, and no other step registers anything; exit begins by its
--- event alone, and takes the newest exit function away as it calls it (XSH atexit, pthread_atfork, exit).
+-- The law of what the threads of a process share, but for the globals (ResultLaw.antt) and the keys (Calls.antt): the owner of a mutex and
+-- the count of a semaphore change by the events that say so alone (XSH pthread_mutex_lock, pthread_mutex_unlock, pthread_cond_wait,
+-- sem_wait, sem_post); atexit and pthread_atfork register what they name, unless they fail, and no other step registers anything; exit
+-- begins by its event alone, and takes the newest exit function away as it calls it (XSH atexit, pthread_atfork, exit).
 use Rattle.std.specs.Prelude.{◌≡◌, ℕ, suc, ◌-◌, ◌%◌, List, [], ◌∷◌, ◌++◌, Option, Some, slice_index, slice_set}
 use Rattle.pct_model.specs.declared.event.What.{What}
 use Rattle.pct_model.specs.declared.event.What.TheVariants as what

@@ -1,8 +1,8 @@
 -- The law of wake-ups, and of what a step leaves of other threads: a signal, and one that is handed on, unblocks a thread that waits on its
--- condition variable, and a broadcast each that does; each goes for the mutex of its own wait, and no other thread is unblocked (the standard
--- allows spurious wakeups: a choice of this host). A thread waits by pthread_cond_wait alone, and leaves its wait with its mutex; one that a
--- signal unblocked, and that acts upon a request, hands the signal on if another thread waits (XSH pthread_cond_wait, pthread_cond_signal,
--- pthread_cond_broadcast). A step changes nothing of another thread but what its events say.
+-- condition variable, and a broadcast each that does; each goes for the mutex of its own wait, and no other thread is unblocked (the
+-- standard allows spurious wakeups: a choice of this host). A thread waits by pthread_cond_wait alone, and leaves its wait with its mutex;
+-- one that a signal unblocked, and that acts upon a request, hands the signal on if another thread waits (XSH pthread_cond_wait,
+-- pthread_cond_signal, pthread_cond_broadcast). A step changes nothing of another thread but what its events say.
 use Rattle.std.specs.Prelude.{◌≡◌, ◌≢◌, ℕ, if◌then◌else◌, Bool, true, false, not, ◌&&◌, ◌||◌, List, ◌∷◌, count_by, nat_eq, slice_get}
 use Rattle.std.specs.Prelude.{Some, IsSomeAnd}
 use Rattle.std.specs.List.{list_all, list_any}

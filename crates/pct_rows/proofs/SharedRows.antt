@@ -1,5 +1,5 @@
--- The law of what the threads of a process share: made steps that keep it, and made steps that do not. Each step that does not differs from one
--- that does in one thing, and has the name of the sentence that it breaks.
+-- The law of what the threads of a process share: made steps that keep it, and made steps that do not. Each step that does not differs from
+-- one that does in one thing, and has the name of the sentence that it breaks.
 use Rattle.pct_names.proofs.Names.{[], ap, arith, Bool, false, ForkHandlers, is_none, length, List, new_frame, NextStatement, None, Option}
 use Rattle.pct_names.proofs.Names.{refl, Running, SharedState, slice_index, Some, StatementIn, Status, Stmt, sym, true, What, ℕ, ◌∷◌, ◌≡◌}
 use Rattle.std.proofs.lemmas.Bool.{true≢false}

@@ -1,5 +1,5 @@
--- The law of wake-ups: made steps that keep it, and made steps that do not. Each step that does not differs from one that does in one thing,
--- and has the name of the sentence that it breaks.
+-- The law of wake-ups: made steps that keep it, and made steps that do not. Each step that does not differs from one that does in one
+-- thing, and has the name of the sentence that it breaks.
 use Rattle.pct_names.proofs.Names.{[], ap, arith, Bool, Cause, cond_wait_point, Disable, false, Frame, List, new_frame, new_thread}
 use Rattle.pct_names.proofs.Names.{NextStatement, None, Process, refl, Running, State, StatementIn, Status, Stmt, sym, Thread, true, What}
 use Rattle.pct_names.proofs.Names.{ℕ, ◌∷◌, ◌≡◌, ◌≢◌}
@@ -35,8 +35,8 @@ waits c m = status.Waiting c m
 abbrev goes_for : Cause → ℕ → ℕ → Status
 goes_for why c m = status.Reacquire c m why
 
--- a step in which thread 1 comes from one status to another, with these events. Threads 2 and 3 wait on condition variable 5, with the mutexes 7
--- and 8; after the step they are these
+-- a step in which thread 1 comes from one status to another, with these events. Threads 2 and 3 wait on condition variable 5, with the
+-- mutexes 7 and 8; after the step they are these
 abbrev step_to : Status → Status → List What → Thread → Thread → ThreadStep
 step_to before after events second third = record {
   pid = 1;
@@ -109,6 +109,12 @@ is_disabled _ = false
 
 a_signal_unblocks : KeepsOther (what.Signalled 5 2 ∷ []) 2 (thread 2 (waits 5 7)) (thread 2 (goes_for cause.Signalled 5 7))
 a_signal_unblocks = record { unblocks = refl; pending = refl; detached = refl; joined = refl; in_pass = λ place quiet. refl; rest = refl }
+
+so_does_one_that_is_handed_on : KeepsOther (what.WaitCanceled 5 ∷ what.HandedOn 5 2 ∷ []) 2 (thread 2 (waits 5 7)) (thread 2 (goes_for cause.Signalled 5 7))
+so_does_one_that_is_handed_on = record { unblocks = refl; pending = refl; detached = refl; joined = refl; in_pass = λ place quiet. refl; rest = refl }
+
+and_a_broadcast : KeepsOther (what.BroadcastTo 5 2 ∷ []) 3 (thread 3 (waits 5 8)) (thread 3 (goes_for cause.Broadcast 5 8))
+and_a_broadcast = record { unblocks = refl; pending = refl; detached = refl; joined = refl; in_pass = λ place quiet. refl; rest = refl }
 
 the_one_that_it_names : KeepsOthers (runs (what.Signalled 5 2 ∷ []) (thread 2 (waits 5 7)) (thread 3 (waits 5 8))) → ⊥
 the_one_that_it_names law = true≢false (sym (ap was_unblocked (law 2 (thread 2 (waits 5 7)) second refl refl).unblocks))

@@ -1,5 +1,5 @@
--- What a step leaves of another thread of its process: it is unblocked by a signal or a broadcast, and changed by a request, a detach, a join and
--- the deletion of a key.
+-- What a step leaves of another thread of its process: it is unblocked by a signal or a broadcast, and changed by a request, a detach, a
+-- join and the deletion of a key.
 use Rattle.pct_names.proofs.Names.{◌&&◌, [], and_from, and_left, and_parts, ap, Bool, Cause, cond, Config, Entry, eqb-false, false}
 use Rattle.pct_names.proofs.Names.{false≢true, holds_slot, is_ended_status, is_live_thread, is_waiting_on, IsSomeAnd, key_place, List}
 use Rattle.pct_names.proofs.Names.{list_any, moved, named_after, nat_eq, NextStatement, none-some, not, Option, Others, others_of, Process}
@@ -32,6 +32,10 @@ use Rattle.pct_wake_laws.proofs.WaitingThreads.{waits_by_id}
 same_unblocked : (why : Cause) (s : Status) → machine.unblocked why s ≡ unblocked why s
 same_unblocked why (status.Waiting c m) = refl
 same_unblocked why _ = refl
+
+-- an action that names threads is all by which a transition changes another thread
+by_name_alone : (tid : ℕ) (o : Transition) (u : Thread) → is_live_thread tid u ≡ false → thread_moved tid o u ≡ named_after o.named u
+by_name_alone tid o u other = ap (λ (live : Bool). named_after o.named (cond live (moved o u) u)) other
 
 -- ---- lists
 
@@ -191,7 +195,7 @@ module _ (script : Script) (config : Config) where
       let target = find_some (λ (x : Thread). waits_on c x && nat_eq id x.id) (is_live_thread id) (waiter_is_live c id) p.threads (waits_by_id config.slots c id p.threads moves.some among) in
       is_named tid p distinct u found id target.0 target.1)
       (has_number config.slots p.threads moves.ids moves.some tid (found_among (λ (x : Thread). x.id) tid p.threads u found)) (case_of_step script config r.world p e t moves) in
-      by moves (subst (λ (b : Bool). KeepsOther o.events tid u (named_after o.named (cond b (moved o u) u))) (sym still) kept) (after script config r.world p e t moves tid)
+      by moves (subst (KeepsOther o.events tid u) (sym (by_name_alone e.tid o u still)) kept) (after script config r.world p e t moves tid)
     where
       by : (moves : Moves script config r.world p e t) {after : Option Thread} → KeepsOther (transition_by script config r.world p t e.alt).events tid u (thread_moved e.tid (transition_by script config r.world p t e.alt) u)
           → After script config r.world p e t moves tid after → IsSomeAnd after (KeepsOther (transition_by script config r.world p t e.alt).events tid u)

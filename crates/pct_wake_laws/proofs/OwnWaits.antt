@@ -1,5 +1,5 @@
--- What a thread does in a condition wait: it waits by pthread_cond_wait alone, makes no step there but that it acts upon a request or acquires its
--- mutex, and does not unblock itself.
+-- What a thread does in a condition wait: it waits by pthread_cond_wait alone, makes no step there but that it acts upon a request or
+-- acquires its mutex, and does not unblock itself.
 use Rattle.pct_names.proofs.Names.{◌&&◌, ◌++◌, [], acts_on_request, acts_or, Alt, and_from, body_at, Bool, Cause, choices_at, cond, Config}
 use Rattle.pct_names.proofs.Names.{Entry, false, false≢true, go_if, hands_on, is_deliverable, is_free_mutex, is_live_thread, is_none}
 use Rattle.pct_names.proofs.Names.{leaves_wait, List, list_any, moved, named_after, NamedAction, nat_eq, next_of, NextStatement, None}
