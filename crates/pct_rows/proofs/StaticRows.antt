@@ -1,7 +1,7 @@
 -- Contents that no text spells, and tables of line kinds.
 use Rattle.pct_names.proofs.Names.{◌++◌, [], Bool, bytes_eq, codes, Contents, declaration_syntax, false, filter, Func, is_plain, is_some}
-use Rattle.pct_names.proofs.Names.{is_static, line_kinds, List, map, point_of, point_statement, points, position_or_len, refl, replicate}
-use Rattle.pct_names.proofs.Names.{Stmt, syntax_of, true, ℕ, ◌∷◌, ◌≡◌}
+use Rattle.pct_names.proofs.Names.{is_static, length, line_kinds, List, list_any, map, point_of, point_statement, points, position_or_len}
+use Rattle.pct_names.proofs.Names.{range_with_len, refl, replicate, Stmt, syntax_of, true, ℕ, ◌∷◌, ◌≡◌}
 use Rattle.pct_model.specs.declared.line_kind.LineKind.TheVariants as line_kind
 use Rattle.pct_model.specs.declared.statement.Dest.TheVariants as destination
 use Rattle.pct_model.specs.declared.statement.Operand.TheVariants as operand
@@ -43,12 +43,12 @@ functions = refl
 -- ---- tables of line kinds
 
 -- each line kind with a keyword of its own is the first with this keyword, so no two kinds have the same keyword
-words_differ : map (λ f. position_or_len (λ g. bytes_eq (syntax_of g).keyword (syntax_of f).keyword) line_kinds) line_kinds ≡ 0 ∷ 1 ∷ 2 ∷ 3 ∷ 4 ∷ 5 ∷ 6 ∷ 7 ∷ 8 ∷ 9 ∷ 10 ∷ 11 ∷ 12 ∷ 13 ∷ 14 ∷ 15 ∷ 16 ∷ 17 ∷ 18 ∷ 19 ∷ 20 ∷ 21 ∷ 22 ∷ 23 ∷ 24 ∷ 25 ∷ 26 ∷ 27 ∷ 28 ∷ 29 ∷ 30 ∷ 31 ∷ 32 ∷ 33 ∷ 34 ∷ 35 ∷ 36 ∷ 37 ∷ 38 ∷ 39 ∷ 40 ∷ 41 ∷ 42 ∷ []
+words_differ : map (λ f. position_or_len (λ g. bytes_eq (syntax_of g).keyword (syntax_of f).keyword) line_kinds) line_kinds ≡ range_with_len 0 (length line_kinds)
 unfolding declaration_syntax syntax_of line_kinds
 words_differ = refl
 
 -- no generic point has such a keyword as its name
-no_point_has_it : map (λ f. is_some (point_statement (syntax_of f).keyword)) line_kinds ≡ replicate 43 false
+no_point_has_it : list_any (λ f. is_some (point_statement (syntax_of f).keyword)) line_kinds ≡ false
 unfolding points point_of declaration_syntax syntax_of point_statement line_kinds
 no_point_has_it = refl
 

@@ -2,6 +2,7 @@
 pub mod Passes
 pub mod ThreadRule
 pub mod NamedFunctions
+pub mod NamedWords
 pub mod GoingOn
 pub mod Handlers
 pub mod Ends

@@ -13,7 +13,7 @@ ghost use Rattle.pct_transitions.specs.Positions.{next_at, IsAt};
 
 use crate::context::Context;
 use crate::current::{At, next_pc};
-use crate::transitions::{acts, goes_on, leaves, no_change};
+use crate::transitions::{acts, fails, goes_on, leaves, no_change};
 use pct_model::{
     Caller, Dest, ForkAt, ForkHandlers, HandlerCall, MAX_FORK_HANDLERS, OwnAction, Phase,
     ProcessAction, SharedAction, Status, Stmt, Transition, UpToThree, WAITPID_POINT, What,
@@ -47,14 +47,7 @@ pub(crate) fn registers_fork(
             ..goes_on(next, UpToThree::none())
         };
     } else {
-        let failed = What::Answer {
-            call: Caller::AtFork,
-            number: 2,
-        };
-        *transition = Transition {
-            writes: UpToThree::one((call.answer, 2)),
-            ..goes_on(next, UpToThree::one(failed))
-        };
+        *transition = fails(next, call.answer, Caller::AtFork, 2);
     }
 }
 
@@ -322,14 +315,7 @@ pub(crate) fn begins_waitpid(context: &Context, next: u32, pid: u32, answer: Des
 fn finds_no_child(next: u32, answer: Dest) -> Transition
     ensures { result ≡ finds_no_child next answer }
 {
-    let failed = What::Answer {
-        call: Caller::WaitPid,
-        number: 3,
-    };
-    Transition {
-        writes: UpToThree::one((answer, 3)),
-        ..goes_on(next, UpToThree::one(failed))
-    }
+    fails(next, answer, Caller::WaitPid, 3)
 }
 
 /// A thread that is suspended in waitpid for the process with an id goes on: it reaps the child, which has ended, and returns. If

@@ -4,7 +4,7 @@
 ghost use Rattle.std.specs.Prelude.{◌≡◌};
 ghost use Rattle.pct_model.specs.KeyCalls.{creates_key, fails_to_create_key, creates_key_by, deletes_key, sets_specific, gets_specific};
 
-use crate::transitions::{goes_on, no_change};
+use crate::transitions::{fails, goes_on, no_change};
 use pct_model::{
     Alt, Caller, Dest, NamedAction, OwnAction, SharedAction, Transition, UpToThree, What,
 };
@@ -55,14 +55,7 @@ fn creates_key(call: &KeyCreateCall, next: u32, number: u32) -> Transition
 fn fails_to_create_key(next: u32, answer: Dest) -> Transition
     ensures { result ≡ fails_to_create_key next answer }
 {
-    let failed = What::Answer {
-        call: Caller::KeyCreate,
-        number: 1,
-    };
-    Transition {
-        writes: UpToThree::one((answer, 1)),
-        ..goes_on(next, UpToThree::one(failed))
-    }
+    fails(next, answer, Caller::KeyCreate, 1)
 }
 
 // ---- pthread_key_delete, pthread_setspecific, pthread_getspecific

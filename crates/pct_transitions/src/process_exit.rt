@@ -7,7 +7,7 @@ ghost use Rattle.pct_model.specs.World.{SharedState};
 
 use crate::fork_calls::leaves_handler;
 use crate::thread_ends::ends_by_exit;
-use crate::transitions::{acts, goes_on, leaves, no_change};
+use crate::transitions::{acts, fails, goes_on, leaves, no_change};
 use pct_model::{
     Caller, Dest, FrameKind, OwnAction, ProcessAction, SharedAction, Status, Transition, UpToThree,
     What,
@@ -126,13 +126,6 @@ pub(crate) fn registers_if(
             ..goes_on(next, UpToThree::none())
         };
     } else {
-        let failed = What::Answer {
-            call: Caller::AtExit,
-            number: 1,
-        };
-        *transition = Transition {
-            writes: UpToThree::one((answer, 1)),
-            ..goes_on(next, UpToThree::one(failed))
-        };
+        *transition = fails(next, answer, Caller::AtExit, 1);
     }
 }

@@ -10,7 +10,7 @@ ghost use Rattle.pct_transitions.specs.Positions.{next_at, IsAt};
 
 use crate::context::Context;
 use crate::current::{At, next_pc};
-use crate::transitions::{acts, goes_on, no_change};
+use crate::transitions::{acts, fails, goes_on, no_change};
 use pct_model::{
     Alt, Caller, Dest, JOIN_POINT, NamedAction, NewThread, OwnAction, Status, Stmt, Transition,
     UpToThree, What,
@@ -66,14 +66,7 @@ fn creates(call: &CreateCall, next: u32, id: u32) -> Transition
 fn fails_to_create(next: u32, answer: Dest) -> Transition
     ensures { result ≡ fails_to_create next answer }
 {
-    let failed = What::Answer {
-        call: Caller::Create,
-        number: 1,
-    };
-    Transition {
-        writes: UpToThree::one((answer, 1)),
-        ..goes_on(next, UpToThree::one(failed))
-    }
+    fails(next, answer, Caller::Create, 1)
 }
 
 // ---- pthread_join

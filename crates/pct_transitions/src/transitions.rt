@@ -1,10 +1,11 @@
 //! Parts of transitions.
 
-ghost use Rattle.std.specs.Prelude.{◌≡◌, [], Some};
+ghost use Rattle.std.specs.Prelude.{◌≡◌, [], ◌∷◌, Some};
+ghost use Rattle.pct_model.specs.declared.event.What.TheVariants as what;
 ghost use Rattle.pct_model.specs.declared.transition.OwnAction.TheVariants as own_action;
 ghost use Rattle.pct_model.specs.Transitions.{goes_on, acts, no_change, stops};
 
-use pct_model::{OwnAction, Status, Transition, UpToThree, What, Why};
+use pct_model::{Caller, Dest, OwnAction, Status, Transition, UpToThree, What, Why};
 
 /// A transition with these events, and nothing else.
 pub(crate) fn acts(events: UpToThree<What>) -> Transition
@@ -30,6 +31,16 @@ pub(crate) fn goes_on(next: u32, events: UpToThree<What>) -> Transition
     Transition {
         next: Some(next),
         ..acts(events)
+    }
+}
+
+/// The thread goes on at a program counter after a call that fails: the result is this number.
+pub(crate) fn fails(next: u32, answer: Dest, call: Caller, number: u32) -> Transition
+    ensures { result ≡ record (goes_on next (what.Answer call number ∷ [])) { writes = (answer, number) ∷ [] } }
+{
+    Transition {
+        writes: UpToThree::one((answer, number)),
+        ..goes_on(next, UpToThree::one(What::Answer { call, number }))
     }
 }
 

@@ -1,9 +1,9 @@
 -- What each transition does with the owners of mutexes, by the tables: it sets those that its events report, a mutex that it acquires has
 -- no owner before, and one that it releases is owned by its thread.
-use Rattle.pct_names.proofs.Names.{◌++◌, ◌<◌, [], and_from, ap, ap₂, Bool, cond, cond_wait_point, Entry, eqb-false, Event, event_of, false}
-use Rattle.pct_names.proofs.Names.{Frame, length, List, map, nat_eq, NextStatement, Others, owns, refl, reverse, Script, shared_after}
-use Rattle.pct_names.proofs.Names.{shared_moved, SharedState, slice_index, slice_set, Status, Stmt, subst, sym, Thread, Transition, true}
-use Rattle.pct_names.proofs.Names.{What, ℕ, ◌∙◌, ◌∷◌, ◌≡◌}
+use Rattle.pct_names.proofs.Names.{◌++◌, ◌<◌, [], and_from, ap, ap₂, Bool, cond, cond_wait_point, encode, Entry, eqb-false, Event, event_of}
+use Rattle.pct_names.proofs.Names.{false, Frame, length, List, map, nat_eq, NextStatement, Others, owns, refl, reverse, Script}
+use Rattle.pct_names.proofs.Names.{shared_after, shared_moved, SharedState, slice_index, slice_set, Status, Stmt, subst, sym, syntax_of}
+use Rattle.pct_names.proofs.Names.{Thread, Transition, true, What, ℕ, ◌∙◌, ◌∷◌, ◌≡◌}
 use Rattle.std.proofs.Common.{eqb-true}
 use Rattle.std.proofs.lemmas.List.{get_or-set_same, get_or-set_other, length-set}
 use Rattle.pct_model.specs.declared.event.What.TheVariants as what
@@ -11,12 +11,13 @@ use Rattle.pct_laws.specs.Each.{each}
 use Rattle.pct_laws.specs.CondLaw.{owners_allow}
 use Rattle.pct_laws.specs.Kept.{IsSuspendedAt}
 use Rattle.pct_laws.specs.MutexOwners.{owner_after, owner_of}
-use Rattle.pct_transition_cases.proofs.PlacedStatements.{IsPlaced, statement_placed}
+use Rattle.pct_transition_cases.proofs.PlacedStatements.{IsPlaced}
 use Rattle.pct_transition_cases.proofs.TransitionCases.{TransitionCase, mutex_locked, mutex_unlocked, wait_begun, wait_ended, ended_in_wait}
 use Rattle.pct_transition_cases.proofs.TransitionCases.{fork_handler_called}
 use Rattle.pct_thread_invariants.proofs.lift.HandlerEvents.{of_each_phase}
+use Rattle.pct_thread_invariants.proofs.thread.NamedWords.{names_there}
 use Rattle.pct_thread_invariants.proofs.lift.ReportedBy.{Reading, reported_by, is_reading, after_own, own_after}
-use Rattle.pct_cancel_laws.proofs.owners.NamedMutexes.{IsMutex, locked_mutex, unlocked_mutex, waited_mutex, reacquired_mutex}
+use Rattle.pct_cancel_laws.proofs.owners.NamedMutexes.{IsMutex, reacquired_mutex}
 
 -- ---- what is reported
 
@@ -56,10 +57,10 @@ module _ (script : Script) (passes : ℕ) (shared : SharedState) (t : Thread) (o
     pub case_fits : {frames : List Frame} {body : List Stmt} {next : NextStatement} {s : Status} {o : Transition}
         → IsPlaced script frames body next → IsSuspendedAt next s → TransitionCase passes body shared t others true next s o
         → OwnersFit script (shared_moved o shared).owners (λ m. after_own (owner m) (map (event_of e) (reverse o.events)) (reported m))
-    unfolding shared_after
-    case_fits placed at (mutex_locked frame m free) = set_fits m (locked_mutex script frame m (statement_placed placed)) t.id e.tid is_own
-    case_fits placed at (mutex_unlocked frame m is) = set_fits m (unlocked_mutex script frame m (statement_placed placed)) 0 0 refl
-    case_fits placed at (wait_begun frame c m is one unasked) = set_fits m (waited_mutex script frame c m (statement_placed placed)) 0 0 refl
+    unfolding shared_after encode syntax_of
+    case_fits placed at (mutex_locked frame m free) = set_fits m (names_there script placed).0 t.id e.tid is_own
+    case_fits placed at (mutex_unlocked frame m is) = set_fits m (names_there script placed).0 0 0 refl
+    case_fits placed at (wait_begun frame c m is one unasked) = set_fits m (names_there script placed).1.0 0 0 refl
     case_fits {next = next} placed at (wait_ended frame _ _ c m why stays free) = set_fits m (reacquired_mutex script c m next placed at) t.id e.tid is_own
     case_fits placed at (ended_in_wait next c m free) = set_fits m (reacquired_mutex script c m next placed at) t.id e.tid is_own
     case_fits placed at (fork_handler_called next values call is) = of_each_phase (λ (w : What). OwnersFit script shared.owners (λ m. owner_after m e.tid w (reported m))) call.func fits fits fits values.phase

@@ -1,14 +1,14 @@
 -- The law of results: what each step of a run stores is what its statement stores, by the table.
 use Rattle.pct_names.proofs.Names.{◌&&◌, ◌-◌, [], acts_on_request, acts_or, adds, Alt, ap, ap₂, arith, at_pc, body_at, Bool, calls_handler}
-use Rattle.pct_names.proofs.Names.{choices_at, cond, Config, Dest, drop, drop_all, Entry, false, false≢true, forks_by, Frame}
+use Rattle.pct_names.proofs.Names.{choices_at, cond, Config, Dest, drop, drop_all, encode, Entry, false, false≢true, forks_by, Frame}
 use Rattle.pct_names.proofs.Names.{frames_written, gets_self, gets_specific, goes_on, goes_on_forking, handler_event, HandlerCall}
 use Rattle.pct_names.proofs.Names.{has_no_frame, is_forking, is_live_thread, length, length-map, List, MAX_FORK_HANDLERS, may_register}
 use Rattle.pct_names.proofs.Names.{moved, nat_eq, nat_lt, next_of, NextStatement, None, NoStatement, not, offers, Option, option_map}
 use Rattle.pct_names.proofs.Names.{Others, others_of, own_after, OwnAction, Parent, Phase, Prepare, Process, refl, registers_fork}
 use Rattle.pct_names.proofs.Names.{registers_if, returns_in_child, returns_in_parent, Run, run, runs, Script, sets, SharedState}
-use Rattle.pct_names.proofs.Names.{slice_index, Some, StatementIn, Status, Stmt, stop_at, stops_or, subst, suc, sym, Thread, thread_at}
-use Rattle.pct_names.proofs.Names.{thread_moved, Transition, transition_at, transition_by, true, What, Why, without_first, written, ◌||◌, ℕ}
-use Rattle.pct_names.proofs.Names.{◌∙◌, ◌∷◌, ◌≡◌}
+use Rattle.pct_names.proofs.Names.{slice_index, Some, StatementIn, Status, Stmt, stop_at, stops_or, subst, suc, sym, syntax_of, Thread}
+use Rattle.pct_names.proofs.Names.{thread_at, thread_moved, Transition, transition_at, transition_by, true, What, Why, without_first}
+use Rattle.pct_names.proofs.Names.{written, ◌||◌, ℕ, ◌∙◌, ◌∷◌, ◌≡◌}
 use Rattle.std.proofs.lemmas.Bool.{cond_both, true≢false}
 use Rattle.std.proofs.lemmas.List.{drop-map}
 use Rattle.pct_model.specs.declared.event.Caller.TheVariants as caller
@@ -23,12 +23,8 @@ use Rattle.pct_model.specs.LineParsing.{is_empty}
 use Rattle.pct_laws.specs.CancelLaw.{acts_or_stops}
 use Rattle.pct_laws.specs.ResultLaw.{all_locals, left_of, Store, stored_at, stored_by, stored, after_stores, local_on_top, StoresResults}
 use Rattle.pct_transition_cases.proofs.TransitionCases.{TransitionCase, Leads, Returns, past_if, by_return, by_end, rests, jumped}
-use Rattle.pct_transition_cases.proofs.TransitionCases.{variable_set, variable_added, main_returned, start_returned, call_left}
-use Rattle.pct_transition_cases.proofs.TransitionCases.{handler_left, exit_function_left, thread_made, thread_not_made, join_ended}
-use Rattle.pct_transition_cases.proofs.TransitionCases.{self_got, state_set, mode_set, fork_registered, fork_not_registered}
-use Rattle.pct_transition_cases.proofs.TransitionCases.{fork_handler_called, fork_handler_left, fork_failed, fork_returned, child_reaped}
-use Rattle.pct_transition_cases.proofs.TransitionCases.{no_child_found, child_lost, key_made, key_not_made, specific_got, exit_registered}
-use Rattle.pct_transition_cases.proofs.TransitionCases.{exit_not_registered}
+use Rattle.pct_transition_cases.proofs.TransitionCases.{main_returned, start_returned, call_left, handler_left, exit_function_left}
+use Rattle.pct_transition_cases.proofs.TransitionCases.{fork_handler_called, fork_handler_left, fork_failed, fork_returned}
 use Rattle.pct_transition_cases.proofs.PlacedStatements.{IsPlaced, is_placed}
 use Rattle.pct_thread_invariants.proofs.ThreadsOfRun.{threads_kept}
 use Rattle.pct_thread_invariants.proofs.lift.ChangedThreads.{either_keeps, named_keeps, changed_shared}
@@ -241,27 +237,10 @@ module _ (passes : ℕ) (body : List Stmt) (shared : SharedState) (t : Thread) (
   case_named : (script : Script) {frames : List Frame} {next : NextStatement} {s : Status} {o : Transition}
       → IsPlaced script frames body next → TransitionCase passes body shared t others true next s o
       → InVariables script o.writes
-  case_named script placed (variable_set frame d v) = names_variables script placed
-  case_named script placed (variable_added frame d v) = names_variables script placed
-  case_named script placed (thread_made frame result id f v detached new among) = names_variables script placed
-  case_named script placed (thread_not_made frame result id f v detached) = ((names_variables script placed).0, tt)
-  case_named script placed (join_ended frame operand d id v target is ended) = names_variables script placed
-  case_named script placed (self_got frame d) = names_variables script placed
-  case_named script placed (state_set frame enable old unhandled) = names_variables script placed
-  case_named script placed (mode_set frame asynchronous old) = names_variables script placed
-  case_named script placed (fork_registered frame result handlers room) = names_variables script placed
-  case_named script placed (fork_not_registered frame result prepare parent child) = names_variables script placed
-  case_named script placed (fork_failed frame result child index length pid) = ((names_variables script placed).0, tt)
-  case_named script placed (fork_returned frame result child phase index length pid value) = names_variables script placed
-  case_named script placed (child_reaped frame result d operand pid n child is ended) = names_variables script placed
-  case_named script placed (no_child_found frame result d operand unasked) = ((names_variables script placed).0, tt)
-  case_named script placed (child_lost frame result d operand pid) = ((names_variables script placed).0, tt)
-  case_named script placed (key_made frame result key destructor k among) = names_variables script placed
-  case_named script placed (key_not_made frame result key destructor) = ((names_variables script placed).0, tt)
-  case_named script placed (specific_got frame d key) = names_variables script placed
-  case_named script placed (exit_registered frame result f may) = names_variables script placed
-  case_named script placed (exit_not_registered frame result f) = names_variables script placed
-  case_named script placed _ = tt
+  unfolding encode syntax_of
+  case_named script placed (rests next s alive) = tt
+  case_named script {next = NoStatement} placed _ = tt
+  case_named script {next = StatementIn frame s} {o = o} placed _ = names_variables script (length o.writes) placed
 
   -- one that stores a number keeps the frames of the thread
   case_stays : {next : NextStatement} {s : Status} {o : Transition} → TransitionCase passes body shared t others true next s o

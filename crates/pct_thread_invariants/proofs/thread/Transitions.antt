@@ -16,21 +16,16 @@ use Rattle.pct_laws.specs.ThreadSummary.{ThreadSummary, no_events}
 use Rattle.pct_transition_cases.proofs.CaseOfTransition.{case_of}
 use Rattle.pct_transition_cases.proofs.OfferedChoices.{deliverable_enabled}
 use Rattle.pct_transition_cases.proofs.PlacedStatements.{IsPlaced, on_top, is_placed, statement_placed}
-use Rattle.pct_transition_cases.proofs.TransitionCases.{TransitionCase, rests, stopped, jumped, emitted, variable_set, variable_added}
-use Rattle.pct_transition_cases.proofs.TransitionCases.{function_called, main_returned, start_returned, call_left, handler_left}
-use Rattle.pct_transition_cases.proofs.TransitionCases.{exit_function_left, thread_made, thread_not_made, join_begun, join_ended}
-use Rattle.pct_transition_cases.proofs.TransitionCases.{thread_detached, self_got, request_sent, state_set, mode_set, cancel_tested}
-use Rattle.pct_transition_cases.proofs.TransitionCases.{point_begun, point_done, point_passed, canceled, canceled_at_point}
-use Rattle.pct_transition_cases.proofs.TransitionCases.{canceled_in_join, canceled_in_sem_wait, canceled_in_waitpid, mutex_locked}
-use Rattle.pct_transition_cases.proofs.TransitionCases.{mutex_unlocked, wait_begun, wait_ended, canceled_in_wait, canceled_after_wait}
-use Rattle.pct_transition_cases.proofs.TransitionCases.{signal_handed_on, ended_in_wait, signal_sent, signal_lost, broadcast_sent}
-use Rattle.pct_transition_cases.proofs.TransitionCases.{sem_wait_begun, sem_taken, sem_posted, fork_registered, fork_not_registered}
-use Rattle.pct_transition_cases.proofs.TransitionCases.{fork_begun, fork_handler_called, fork_handler_left, process_forked}
-use Rattle.pct_transition_cases.proofs.TransitionCases.{process_not_forked, fork_failed, fork_returned, waitpid_begun, child_reaped}
-use Rattle.pct_transition_cases.proofs.TransitionCases.{no_child_found, child_lost, key_made, key_not_made, key_deleted, specific_set}
-use Rattle.pct_transition_cases.proofs.TransitionCases.{specific_got, handler_pushed, handler_popped, handler_called, exit_called}
-use Rattle.pct_transition_cases.proofs.TransitionCases.{handler_run, destructor_called, pass_begun, thread_ended, thread_ended_with_keys}
-use Rattle.pct_transition_cases.proofs.TransitionCases.{last_ended, last_ended_with_keys, exit_registered, exit_not_registered}
+use Rattle.pct_transition_cases.proofs.TransitionCases.{TransitionCase, rests, stopped, jumped, function_called, main_returned}
+use Rattle.pct_transition_cases.proofs.TransitionCases.{start_returned, call_left, handler_left, exit_function_left, thread_made}
+use Rattle.pct_transition_cases.proofs.TransitionCases.{join_begun, join_ended, state_set, point_begun, point_passed, canceled}
+use Rattle.pct_transition_cases.proofs.TransitionCases.{canceled_at_point, canceled_in_join, canceled_in_sem_wait, canceled_in_waitpid}
+use Rattle.pct_transition_cases.proofs.TransitionCases.{wait_begun, wait_ended, canceled_in_wait, canceled_after_wait, signal_handed_on}
+use Rattle.pct_transition_cases.proofs.TransitionCases.{ended_in_wait, sem_wait_begun, sem_taken, fork_begun, fork_handler_called}
+use Rattle.pct_transition_cases.proofs.TransitionCases.{fork_handler_left, process_forked, process_not_forked, fork_failed, fork_returned}
+use Rattle.pct_transition_cases.proofs.TransitionCases.{waitpid_begun, child_reaped, child_lost, handler_pushed, handler_popped}
+use Rattle.pct_transition_cases.proofs.TransitionCases.{handler_called, exit_called, handler_run, destructor_called, pass_begun}
+use Rattle.pct_transition_cases.proofs.TransitionCases.{thread_ended, thread_ended_with_keys, last_ended, last_ended_with_keys}
 use Rattle.pct_transition_cases.proofs.TransitionCases.{process_exited, process_ended_now, exit_function_called, process_ended}
 use Rattle.pct_thread_invariants.proofs.StaticPushes.{PushesMatch}
 use Rattle.pct_thread_invariants.proofs.lift.HandlerEvents.{of_each_phase}
@@ -71,9 +66,6 @@ module _ (script : Script) (passes : ℕ) (matches : PushesMatch script) (names 
   case_keeps {frames} place (stopped frame s why) rule = record { own = rule; lawful = refl }
   -- statements of the script language
   case_keeps (on_top frame below s at) (jumped _ _ pc leads) rule = leads_keeps script passes matches t frame below reported rule shared.globals at leads
-  case_keeps (on_top frame below s at) (emitted _ v) rule = next_keeps script passes matches t frame below reported rule status.Running (statement.Emit v) at refl refl refl refl refl refl
-  case_keeps (on_top frame below s at) (variable_set _ d v) rule = next_keeps script passes matches t frame below reported rule status.Running (statement.Set d v) at refl refl refl refl refl refl
-  case_keeps (on_top frame below s at) (variable_added _ d v) rule = next_keeps script passes matches t frame below reported rule status.Running (statement.Add d v) at refl refl refl refl refl refl
   case_keeps (on_top frame below s at) (function_called _ f v room) rule = call_keeps script passes matches t frame below reported f v (value frame v) at (names.called frame f v at) rule
   case_keeps (on_top frame below s at) (main_returned _ _ v returns is once) rule = exit_keeps script passes t (frame ∷ below) reported rule v
   case_keeps (on_top frame below s at) (start_returned _ _ v returns is) rule = begin_keeps script passes t (frame ∷ below) reported rule v (kind_fits script passes matches t frame below reported rule kind.Start is).0
@@ -81,22 +73,14 @@ module _ (script : Script) (passes : ℕ) (matches : PushesMatch script) (names 
   case_keeps (on_top frame below s at) (handler_left _ _ v returns kinds) rule = handler_left_keeps script passes matches t frame below reported rule shared.globals at returns kinds
   case_keeps (on_top frame below s at) (exit_function_left _ _ v returns is) rule = absurd (kind_fits script passes matches t frame below reported rule kind.ExitFn is)
   -- threads
-  case_keeps (on_top frame below s at) (thread_made _ result id f v detached new among) rule = next_keeps script passes matches t frame below reported rule status.Running (statement.Create result id f v detached) at refl refl refl refl refl refl
-  case_keeps (on_top frame below s at) (thread_not_made _ result id f v detached) rule = next_keeps script passes matches t frame below reported rule status.Running (statement.Create result id f v detached) at refl refl refl refl refl refl
   case_keeps (on_top frame below s at) (join_begun _ id d target seen other joinable unjoined unasked) rule = record { own = suspends script passes t status.Running (frame ∷ below) reported rule rule.by_status (status.Joining (value frame id)) (rule.by_status, ap (λ (x : Option Stmt). is_join (next_in frame x)) at); lawful = refl }
   case_keeps (on_top frame below s at) (join_ended _ operand d id v target seen ended) rule =
       next_keeps script passes matches t frame below reported (awake script passes t (status.Joining id) (frame ∷ below) reported rule rule.by_status.0) (status.Joining id) (statement.Join operand d) at refl refl refl refl refl refl
-  case_keeps (on_top frame below s at) (thread_detached _ id target seen joinable unjoined) rule = next_keeps script passes matches t frame below reported rule status.Running (statement.Detach id) at refl refl refl refl refl refl
-  case_keeps (on_top frame below s at) (self_got _ d) rule = next_keeps script passes matches t frame below reported rule status.Running (statement.SelfId d) at refl refl refl refl refl refl
   -- cancellation
-  case_keeps (on_top frame below s at) (request_sent _ id target seen) rule = next_keeps script passes matches t frame below reported rule status.Running (statement.CancelThread id) at refl refl refl refl refl refl
   case_keeps (on_top frame below s at) (state_set _ enable old outside) rule = state_keeps script passes matches t frame below reported rule enable old at outside
-  case_keeps (on_top frame below s at) (mode_set _ asynchronous old) rule = next_keeps script passes matches t frame below reported rule status.Running (statement.SetMode asynchronous old) at refl refl refl refl refl refl
-  case_keeps (on_top frame below s at) (cancel_tested _ unasked) rule = next_keeps script passes matches t frame below reported rule status.Running statement.TestCancel at refl refl refl refl refl refl
   case_keeps (on_top frame below s at) (point_begun _ index is unasked) rule =
       let called : is_call_of index (next_of script (frame ∷ below)) ≡ true = ap (λ (x : Option Stmt). is_call_of index (next_in frame x)) at ∙ and_from (nat_eq index index) (is_required (point_kind index)) (eq-eqb index index refl) (ap is_required is) in
       record { own = suspends script passes t status.Running (frame ∷ below) reported rule rule.by_status (status.AtPoint index) (rule.by_status, called); lawful = refl }
-  case_keeps (on_top frame below s at) (point_done _ index optional) rule = next_keeps script passes matches t frame below reported rule status.Running (statement.PointCall index) at refl refl refl refl refl refl
   case_keeps (on_top frame below s at) (point_passed _ index i) rule =
       next_keeps script passes matches t frame below reported (awake script passes t (status.AtPoint index) (frame ∷ below) reported rule rule.by_status.0) (status.AtPoint index) (statement.PointCall i) at refl refl refl refl refl refl
   case_keeps {frames} place (canceled next delivered where_it_may) rule = cancel_keeps script passes t status.Running frames reported rule rule.by_status (deliverable_enabled t.state t.pending (delivered refl))
@@ -104,9 +88,6 @@ module _ (script : Script) (passes : ℕ) (matches : PushesMatch script) (names 
   case_keeps {frames} place (canceled_in_join next id delivered) rule = cancel_keeps script passes t (status.Joining id) frames reported rule rule.by_status.0 (deliverable_enabled t.state t.pending (delivered refl))
   case_keeps {frames} place (canceled_in_sem_wait next sem delivered) rule = cancel_keeps script passes t (status.InSem sem) frames reported rule rule.by_status.0 (deliverable_enabled t.state t.pending (delivered refl))
   case_keeps {frames} place (canceled_in_waitpid next pid delivered) rule = cancel_keeps script passes t (status.InWaitPid pid) frames reported rule rule.by_status.0 (deliverable_enabled t.state t.pending (delivered refl))
-  -- mutexes
-  case_keeps (on_top frame below s at) (mutex_locked _ m free) rule = next_keeps script passes matches t frame below reported rule status.Running (statement.Lock m) at refl refl refl refl refl refl
-  case_keeps (on_top frame below s at) (mutex_unlocked _ m owned) rule = next_keeps script passes matches t frame below reported rule status.Running (statement.Unlock m) at refl refl refl refl refl refl
   -- condition waits
   case_keeps (on_top frame below s at) (wait_begun _ c m owned one unasked) rule =
       let called : is_cond_wait_of c m (next_of script (frame ∷ below)) ≡ true = ap (λ (x : Option Stmt). is_cond_wait_of c m (next_in frame x)) at ∙ and_from (nat_eq c c) (nat_eq m m) (eq-eqb c c refl) (eq-eqb m m refl) in
@@ -117,20 +98,11 @@ module _ (script : Script) (passes : ℕ) (matches : PushesMatch script) (names 
   case_keeps {frames} place (canceled_after_wait next c m why returns delivered) rule = record { own = leave_fits script passes t (status.Reacquire c m why) frames reported rule rule.by_status.0 c m rule.by_status.1 (deliverable_enabled t.state t.pending (delivered refl)); lawful = refl }
   case_keeps {frames} place (signal_handed_on next c m u delivered waits) rule = record { own = leave_fits script passes t (status.Reacquire c m cause.Signalled) frames reported rule rule.by_status.0 c m rule.by_status.1 (deliverable_enabled t.state t.pending (delivered refl)); lawful = refl }
   case_keeps {frames} place (ended_in_wait next c m free) rule = end_in_wait_keeps script passes t (status.Reacquire c m cause.Canceled) frames reported rule rule.by_status.0 c m (rule.by_status.2 refl)
-  -- signals and broadcasts
-  case_keeps (on_top frame below s at) (signal_sent _ c u waits) rule = next_keeps script passes matches t frame below reported rule status.Running (statement.Signal c) at refl refl refl refl refl refl
-  case_keeps (on_top frame below s at) (signal_lost _ c) rule = next_keeps script passes matches t frame below reported rule status.Running (statement.Signal c) at refl refl refl refl refl refl
-  case_keeps (on_top frame below s at) (broadcast_sent _ c) rule = next_keeps script passes matches t frame below reported rule status.Running (statement.Broadcast c) at refl refl refl refl refl refl
   -- semaphores
   case_keeps (on_top frame below s at) (sem_wait_begun _ sem unasked) rule = record { own = suspends script passes t status.Running (frame ∷ below) reported rule rule.by_status (status.InSem sem) (rule.by_status, ap (λ (x : Option Stmt). is_sem_wait_of sem (next_in frame x)) at ∙ eq-eqb sem sem refl); lawful = refl }
   case_keeps (on_top frame below s at) (sem_taken _ n sem some) rule =
       next_keeps script passes matches t frame below reported (awake script passes t (status.InSem sem) (frame ∷ below) reported rule rule.by_status.0) (status.InSem sem) (statement.SemWait n) at refl refl refl refl refl refl
-  case_keeps (on_top frame below s at) (sem_posted _ sem) rule = next_keeps script passes matches t frame below reported rule status.Running (statement.SemPost sem) at refl refl refl refl refl refl
   -- fork and its handlers, and waitpid
-  case_keeps (on_top frame below s at) (fork_registered _ result handlers room) rule =
-      next_keeps script passes matches t frame below reported rule status.Running (statement.AtFork result handlers.prepare handlers.parent handlers.child) at refl refl refl refl refl refl
-  case_keeps (on_top frame below s at) (fork_not_registered _ result prepare parent child) rule =
-      next_keeps script passes matches t frame below reported rule status.Running (statement.AtFork result prepare parent child) at refl refl refl refl refl refl
   case_keeps (on_top frame below s at) (fork_begun _ result child alive) rule =
       let count : ℕ = length shared.fork_handlers in
       record { own = suspends script passes t status.Running (frame ∷ below) reported rule rule.by_status (status.Forking Prepare count count 0) (rule.by_status, ap (λ (x : Option Stmt). is_at_fork (next_in frame x)) at, alive); lawful = refl }
@@ -151,15 +123,8 @@ module _ (script : Script) (passes : ℕ) (matches : PushesMatch script) (names 
       record { own = suspends script passes t status.Running (frame ∷ below) reported rule rule.by_status (status.InWaitPid (value frame pid)) (rule.by_status, ap (λ (x : Option Stmt). is_at_waitpid (next_in frame x)) at); lawful = refl }
   case_keeps (on_top frame below s at) (child_reaped _ result d operand pid n child is ended) rule =
       next_keeps script passes matches t frame below reported (awake script passes t (status.InWaitPid pid) (frame ∷ below) reported rule rule.by_status.0) (status.InWaitPid pid) (statement.WaitPid result operand d) at refl refl refl refl refl refl
-  case_keeps (on_top frame below s at) (no_child_found _ result d operand unasked) rule = next_keeps script passes matches t frame below reported rule status.Running (statement.WaitPid result operand d) at refl refl refl refl refl refl
   case_keeps (on_top frame below s at) (child_lost _ result d operand pid) rule =
       next_keeps script passes matches t frame below reported (awake script passes t (status.InWaitPid pid) (frame ∷ below) reported rule rule.by_status.0) (status.InWaitPid pid) (statement.WaitPid result operand d) at refl refl refl refl refl refl
-  -- keys
-  case_keeps (on_top frame below s at) (key_made _ result key destructor k among) rule = next_keeps script passes matches t frame below reported rule status.Running (statement.KeyCreate result key destructor) at refl refl refl refl refl refl
-  case_keeps (on_top frame below s at) (key_not_made _ result key destructor) rule = next_keeps script passes matches t frame below reported rule status.Running (statement.KeyCreate result key destructor) at refl refl refl refl refl refl
-  case_keeps (on_top frame below s at) (key_deleted _ key named) rule = next_keeps script passes matches t frame below reported rule status.Running (statement.KeyDelete key) at refl refl refl refl refl refl
-  case_keeps (on_top frame below s at) (specific_set _ key v named) rule = next_keeps script passes matches t frame below reported rule status.Running (statement.SetSpecific key v) at refl refl refl refl refl refl
-  case_keeps (on_top frame below s at) (specific_got _ d key) rule = next_keeps script passes matches t frame below reported rule status.Running (statement.GetSpecific d key) at refl refl refl refl refl refl
   -- cleanup handlers
   case_keeps (on_top frame below s at) (handler_pushed _ f v room) rule = push_keeps script passes matches t frame below reported f v (value frame v) at (names.pushed frame f v at) rule
   case_keeps (on_top frame below s at) (handler_popped _ v f a handlers is zero) rule =
@@ -177,12 +142,12 @@ module _ (script : Script) (passes : ℕ) (matches : PushesMatch script) (names 
   case_keeps {frames} place (last_ended next none is_last nothing_due none_left) rule = by_handlers script passes t status.Ending frames reported _ [] none (λ r. record { own = exits_fit script passes matches t frames reported r (end_value t.reason); lawful = and_from _ _ (end_lawful script passes matches t frames reported r) refl }) rule
   case_keeps {frames} place (last_ended_with_keys next left none is_last some limit all none_left) rule = by_handlers script passes t status.Ending frames reported _ [] none (λ r. record { own = exits_fit script passes matches t frames reported r (end_value t.reason); lawful = and_from _ _ (end_lawful script passes matches t frames reported r) (leftover_lawful script passes matches t frames reported r left some limit) }) rule
   -- the exit of a process
-  case_keeps (on_top frame below s at) (exit_registered _ result f may) rule = next_keeps script passes matches t frame below reported rule status.Running (statement.AtExit result f) at refl refl refl refl refl refl
-  case_keeps (on_top frame below s at) (exit_not_registered _ result f) rule = next_keeps script passes matches t frame below reported rule status.Running (statement.AtExit result f) at refl refl refl refl refl refl
   case_keeps (on_top frame below s at) (process_exited _ v alone) rule = exit_keeps script passes t (frame ∷ below) reported rule (value frame v)
   case_keeps {frames} place (process_ended_now frame v) rule = record { own = rule; lawful = refl }
   case_keeps {frames} place (exit_function_called next f functions is) rule = exit_function_keeps script passes matches t frames reported f (first_plain f functions is) rule
   case_keeps {frames} place (process_ended next v value_is no_functions) rule = record { own = rule; lawful = refl }
+  -- each other transition is of a running thread that goes on at its next statement
+  case_keeps (on_top frame below s at) _ rule = next_keeps script passes matches t frame below reported rule status.Running s at refl refl refl refl refl refl
 
   any_if : (exits : Bool) (u : Thread) (s : ThreadSummary) → FitsIf script passes exits u s → FitsAny script passes u s
   any_if true u s fits = fits
