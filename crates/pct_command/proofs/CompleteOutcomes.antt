@@ -22,12 +22,12 @@ given_by : Schedule → Config × List Entry → Config × List Entry
 given_by (Ok given) other = given
 given_by (Err fault) other = other
 
-same_given : (s : Schedule) (one other : Config × List Entry) → s ≡ Ok one → s ≡ Ok other → one ≡ other
+pub same_given : (s : Schedule) (one other : Config × List Entry) → s ≡ Ok one → s ≡ Ok other → one ≡ other
 unfolding given_by
 same_given s one other reads also = ap (λ (x : Schedule). given_by x one) (sym reads ∙ also)
 
 -- and then no fault
-given_or_fault : (s : Schedule) (given : Config × List Entry) (fault : ℕ × ScheduleWhy) → s ≡ Ok given → s ≡ Err fault → ⊥
+pub given_or_fault : (s : Schedule) (given : Config × List Entry) (fault : ℕ × ScheduleWhy) → s ≡ Ok given → s ≡ Err fault → ⊥
 given_or_fault s given fault good bad = absurd cc
 
 pub verdict_code : (v : Verdict) → code_of_verdict v < 5

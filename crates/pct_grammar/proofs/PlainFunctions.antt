@@ -5,7 +5,8 @@ use Rattle.pct_names.proofs.Names.{is_none, is_plain, is_plain_at, is_plain_body
 use Rattle.pct_names.proofs.Names.{list_all, list_all-append, map, names_declared, names_in, names_of_kind, names_other, names_plain}
 use Rattle.pct_names.proofs.Names.{names_plain_functions, None, not, not_plain, NotPlain, Option, option_map, option_map_or, plain_names}
 use Rattle.pct_names.proofs.Names.{refl, resolve, resolve_all, resolve_name, role_in, role_of, same_Some, Section, slice_get, slice_get-map}
-use Rattle.pct_names.proofs.Names.{Some, SpellsBody, Stmt, sym, syntax_of, Token, true, unwrap_or, ◌||◌, ℕ, ◌∙◌, ◌∷◌, ◌≡◌}
+use Rattle.pct_names.proofs.Names.{Some, SpellsBody, Stmt, sym, syntax_of, Token, unwrap_or, ◌||◌, ℕ, ◌∙◌, ◌∷◌, ◌≡◌}
+use mathlib.Core.Bool.{and-true}
 use Rattle.pct_model.specs.declared.line_kind.SymbolKind.TheVariants as kind
 use Rattle.pct_model.specs.declared.line_kind.ArgumentKind.TheVariants as argument_kind
 use Rattle.pct_model.specs.declared.parsed_line.Argument.TheVariants as argument
@@ -50,16 +51,12 @@ module _ (lines : List Line) (c : Contents) (are : AreContents lines c) where
       ∙ at_from_zip (SpellsBody c) is_plain_section is_plain_body plain_section (functions_in lines) c.funcs are.bodies found.0
       ∙ ap (is_plain_at c) found.2
 
-  and_true : (t : Bool) → (t && true) ≡ t
-  and_true true = refl
-  and_true false = refl
-
   at_index : (locals : List (List ℕ)) (p : ArgumentKind) (w : Token) (a : Argument) → resolve (names_of_kind c) locals p w ≡ Some a
       → list_all (is_plain_function lines) (cond (asks_plain p) (names_in (w ∷ [])) []) ≡ (not (asks_plain p) || is_plain_at c a)
   unfolding resolve resolve_name
-  at_index locals argument_kind.PlainFunction (token.Name w) a e = and_true (is_plain_function lines w) ∙ at_name w a e
+  at_index locals argument_kind.PlainFunction (token.Name w) a e = and-true (is_plain_function lines w) ∙ at_name w a e
   at_index locals argument_kind.PlainFunction _ a e = ap (is_plain_at c) (same_Some _ a e)
-  at_index locals argument_kind.OptionalPlainFunction (token.Name w) a e = and_true (is_plain_function lines w) ∙ at_name w a e
+  at_index locals argument_kind.OptionalPlainFunction (token.Name w) a e = and-true (is_plain_function lines w) ∙ at_name w a e
   at_index locals argument_kind.OptionalPlainFunction _ a e = ap (is_plain_at c) (same_Some _ a e)
   at_index locals _ w a e = refl
 

@@ -1,13 +1,13 @@
 -- The outcome of an input that is not refused, and the answer to all that a source had left.
-use Rattle.pct_names.proofs.Names.{◌<◌, ap, Appends, arith, code_of_verdict, Config, Entry, Err, first_illegal, IfOk, IfOk-at_ok, inr}
-use Rattle.pct_names.proofs.Names.{length, List, None, Ok, Option, refl, Run, same_Some, Schedule, ScheduleWhy, Script, Some, Spells, subst}
-use Rattle.pct_names.proofs.Names.{sym, true, Verdict, verdict_of, ℕ, ◌∙◌, ◌≡◌}
+use Rattle.pct_names.proofs.Names.{◌<◌, ap, Appends, arith, code_of_verdict, Config, Entry, first_illegal, inr, length, List, None, Ok}
+use Rattle.pct_names.proofs.Names.{Option, refl, Run, same_Some, Script, Some, Spells, sym, true, Verdict, verdict_of, ℕ, ◌∙◌, ◌≡◌}
 use Rattle.std.proofs.lemmas.Bool.{true≢false}
 use Rattle.pct_model.specs.declared.stop.Verdict.TheVariants as verdict
 use Rattle.pct_grammar.proofs.Scripts.{spells_one_script}
 use Rattle.pct_schedule.specs.Prefix.{prefix_of}
 use Rattle.pct_history.specs.Replays.{followed}
 use Rattle.pct_command.specs.Command.{Outside}
+use Rattle.pct_command.proofs.CompleteOutcomes.{given_or_fault, same_given, verdict_code}
 use Rattle.pct_command.proofs.Scripts.{spelled_or_fault}
 use Rattle.pct_inspection.specs.declared.answer.Answer.{Answer}
 use Rattle.pct_inspection.specs.declared.words.Form.TheVariants as form
@@ -21,14 +21,6 @@ use Rattle.pct_inspection.specs.Answer.{AnswersRead, status_of_answer, text_of_a
 
 -- ---- an input that is not refused
 
--- a text gives one prefix
-same_given : (s : Schedule) (one other : Config × List Entry) → s ≡ Ok one → s ≡ Ok other → one ≡ other
-same_given s one other reads also = IfOk-at_ok (λ given. given ≡ other) reads (subst (λ (x : Schedule). IfOk x (λ given. given ≡ other)) (sym also) refl)
-
--- and then no fault
-given_or_fault : (s : Schedule) (given : Config × List Entry) (fault : ℕ × ScheduleWhy) → s ≡ Ok given → s ≡ Err fault → ⊥
-given_or_fault s given fault good bad = absurd cc
-
 -- a run that is not open has a code below 4
 closed_code : (v : Verdict) → ¬ (v ≡ verdict.Open) → code_of_verdict v < 4
 unfolding code_of_verdict
@@ -37,15 +29,6 @@ closed_code verdict.Deadlock closed = omega arith
 closed_code verdict.Budget closed = omega arith
 closed_code (verdict.Undefined why) closed = omega arith
 closed_code verdict.Open closed = absurd (closed refl)
-
--- and each run has one below 5
-run_code : (v : Verdict) → code_of_verdict v < 5
-unfolding code_of_verdict
-run_code verdict.Complete = omega arith
-run_code verdict.Deadlock = omega arith
-run_code verdict.Budget = omega arith
-run_code (verdict.Undefined why) = omega arith
-run_code verdict.Open = omega arith
 
 -- in a prefix that is valid no entry is illegal
 none_illegal : (input : List ℕ) → IsValidPrefix input → (script : Script) (config : Config) (entries : List Entry) (illegal : Option ℕ)
@@ -63,7 +46,7 @@ followed_code : (input : List ℕ) (code : ℕ) → IsValidPrefix input → (f :
 followed_code input code valid f code_is =
     let v : Verdict = verdict_of f.script f.config f.after.world (length (followed f.illegal f.entries)) in
     let legal : f.illegal ≡ None = none_illegal input valid f.script f.config f.entries f.illegal f.spelled f.read f.illegal_is in
-    rw (code_is ∙ ap (λ (illegal : Option ℕ). code_by illegal (code_of_verdict v)) legal) (run_code v)
+    rw (code_is ∙ ap (λ (illegal : Option ℕ). code_by illegal (code_of_verdict v)) legal) (verdict_code v)
 
 -- if each entry of the prefix is legal, the code is that of the verdict
 legal_code : (words : List (List ℕ)) (input : List ℕ) (code : ℕ) (text : List ℕ) → IsValidPrefix input → Continues words input code text → code < 4

@@ -1,6 +1,6 @@
 -- Views are outcomes.
-use Rattle.pct_names.proofs.Names.{◌++◌, ap, code_of_verdict, Config, Entry, Err, IfOk, List, None, Ok, Option, refl, Result, Run, run}
-use Rattle.pct_names.proofs.Names.{Script, Some, subst, sym, true, Verdict, ℕ, ◌∙◌, ◌≡◌}
+use Rattle.pct_names.proofs.Names.{◌++◌, ap, code_of_verdict, Config, Entry, Err, IfOk, inl, inr, List, None, Ok, Option, refl, Result}
+use Rattle.pct_names.proofs.Names.{Run, run, Script, Some, subst, Verdict, ℕ, ◌∙◌, ◌≡◌, ◌⊎◌}
 use Rattle.pct_schedule.specs.Prefix.{prefix_of}
 use Rattle.pct_script.specs.StatementLines.{statement_lines}
 use Rattle.pct_script.proofs.StatementSpellings.{lines_spell}
@@ -17,11 +17,12 @@ use Rattle.pct_inspection.specs.declared.answer.Answer.{Answer}
 use Rattle.pct_inspection.specs.declared.words.Form.{Form}
 use Rattle.pct_inspection.specs.declared.words.Form.TheVariants as form
 use Rattle.pct_inspection.specs.declared.words.Inspection.TheVariants as inspection
+use Rattle.pct_inspection.specs.declared.words.View.{View}
 use Rattle.pct_inspection.specs.declared.words.View.TheVariants as view
 use Rattle.pct_inspection.specs.Inspection.{script_in, prefix_in, notice, code_by, FollowsPrefix, code_after, IsInspected}
 use Rattle.pct_inspection.specs.Inspection as outcome
-use Rattle.pct_inspection.specs.Answer.{code_of_answer, text_of_answer, status_by, Answered, AsksFor, HasScript}
-use Rattle.pct_inspection.specs.Shown.{IsInForm, ShowsState, ShowsTrace, choices_after, states_after, verdict_after}
+use Rattle.pct_inspection.specs.Answer.{code_of_answer, status_by, status_of_answer, text_of_answer, Answered, AsksFor, HasScript}
+use Rattle.pct_inspection.specs.Shown.{IsInForm, ShowsState, ShowsTrace, state_text, verdict_after}
 
 -- the code of a verdict, or that of a refused schedule
 code_by_verdict : (illegal : Option ℕ) (v : Verdict) → code_of (status_by illegal (status_of_verdict v)) ≡ code_by illegal (code_of_verdict v)
@@ -48,95 +49,73 @@ module _ (words : List (List ℕ)) (input : List ℕ) (script : Script) (config 
       is_run = run_followed;
     }
 
-    -- the code is that of the run
-    code_is : (v : Verdict) → v ≡ verdict_after engine after → code_of (status_by illegal (status_of_verdict v)) ≡ code_after prefix
-    code_is v same =
-        code_by_verdict illegal v
-        ∙ ap (λ (w : Verdict). code_by illegal (code_of_verdict w)) (same ∙ ap (λ (e : EngineValue). verdict_after e after) follows.engine_is)
+    -- an answer with the status of the run, if the text is in the lines of the input
+    module _ (a : Answer) (status : status_of_answer a ≡ status_by illegal (status_of_verdict (verdict_after engine after))) (lines : List (List ℕ)) (of_input : lines ≡ statement_lines (script_in input)) where
+      -- the code is that of the run
+      code_is : code_of_answer a ≡ code_after prefix
+      code_is =
+          ap code_of status
+          ∙ code_by_verdict illegal (verdict_after engine after)
+          ∙ ap (λ (e : EngineValue). code_by illegal (code_of_verdict (verdict_after e after))) follows.engine_is
 
-    -- the text of a view of the state is that of the run, with the lines of the input
-    text_followed : (text_of : List (List ℕ) → EngineValue → List ℕ) (lines : List (List ℕ)) (text : List ℕ) → lines ≡ statement_lines (script_in input) → text ≡ text_of lines engine ++ notice illegal
-        → text ≡ text_of (statement_lines (script_in input)) (record { script = script; config = config; history = followed illegal entries }) ++ notice illegal
-    text_followed text_of lines text of_input is =
-        is
-        ∙ ap (λ (e : EngineValue). text_of lines e ++ notice illegal) follows.engine_is
-        ∙ ap (λ (ls : List (List ℕ)). text_of ls (record { script = script; config = config; history = followed illegal entries }) ++ notice illegal) of_input
+      -- a text of the run is that of the entries, with the lines of the input
+      text_followed : (text_of : List (List ℕ) → EngineValue → List ℕ) → text_of_answer a ≡ text_of lines engine ++ notice illegal
+          → text_of_answer a ≡ text_of (statement_lines (script_in input)) (record { script = script; config = config; history = followed illegal entries }) ++ notice illegal
+      text_followed text_of is =
+          is
+          ∙ ap (λ (e : EngineValue). text_of lines e ++ notice illegal) follows.engine_is
+          ∙ ap (λ (ls : List (List ℕ)). text_of ls (record { script = script; config = config; history = followed illegal entries }) ++ notice illegal) of_input
 
-    -- `choices`
-    choices_listed : (lines : List (List ℕ)) (text : List ℕ) (v : Verdict) → AsksFor words (inspection.Show view.Choices) → lines ≡ statement_lines (script_in input)
-        → ShowsState (choices_after lines engine after) engine after illegal text v → IsInspected words input (code_of (status_by illegal (status_of_verdict v))) text
-    choices_listed lines text v asked of_input shows = outcome.Listed (record {
-      asked = asked;
-      prefix = prefix;
-      code_is = code_is v shows.verdict_is;
-      text_is = text_followed (λ ls e. choices_after ls e after) lines text of_input shows.text_is;
-      entries_are = legal_entries_listed script config (followed illegal entries) after run_followed;
-      waits_are = λ l listed. blocked_threads_wait script config (followed illegal entries) after l run_followed listed;
-      lines_are = λ func pc f s at here. lines_spell (script_in input) script has.spelled func pc f s at here;
-    })
+      -- `choices` and `states`
+      state_listed : (shown : View) → ((shown ≡ view.Choices) ⊎ (shown ≡ view.States)) → AsksFor words (inspection.Show shown) → text_of_answer a ≡ state_text shown lines engine after ++ notice illegal
+          → IsInspected words input (code_of_answer a) (text_of_answer a)
+      state_listed view.Choices of_state asked text_is = outcome.Listed (record {
+        asked = asked;
+        prefix = prefix;
+        code_is = code_is;
+        text_is = text_followed (λ ls e. state_text view.Choices ls e after) text_is;
+        entries_are = legal_entries_listed script config (followed illegal entries) after run_followed;
+        waits_are = λ l listed. blocked_threads_wait script config (followed illegal entries) after l run_followed listed;
+        lines_are = λ func pc f s at here. lines_spell (script_in input) script has.spelled func pc f s at here;
+      })
+      state_listed view.States of_state asked text_is = outcome.Valued (record {
+        asked = asked;
+        prefix = prefix;
+        code_is = code_is;
+        text_is = text_followed (λ ls e. state_text view.States ls e after) text_is;
+        lines_are = λ func pc f s at here. lines_spell (script_in input) script has.spelled func pc f s at here;
+      })
+      state_listed (view.Steps shown_form) of_state asked text_is = elim of_state [
+        | inl is ↦ absurd cc
+        | inr is ↦ absurd cc
+      ]
 
-    -- `states`
-    states_listed : (lines : List (List ℕ)) (text : List ℕ) (v : Verdict) → AsksFor words (inspection.Show view.States) → lines ≡ statement_lines (script_in input)
-        → ShowsState (states_after lines engine after) engine after illegal text v → IsInspected words input (code_of (status_by illegal (status_of_verdict v))) text
-    states_listed lines text v asked of_input shows = outcome.Valued (record {
-      asked = asked;
-      prefix = prefix;
-      code_is = code_is v shows.verdict_is;
-      text_is = text_followed (λ ls e. states_after ls e after) lines text of_input shows.text_is;
-      lines_are = λ func pc f s at here. lines_spell (script_in input) script has.spelled func pc f s at here;
-    })
+      -- `trace`, and the drawings
+      steps_shown : (shown : Form) → AsksFor words (inspection.Show (view.Steps shown)) → (shown ≡ form.Trace → text_of_answer a ≡ trace_text lines engine.script engine.config engine.history after ++ notice illegal)
+          → IsInspected words input (code_of_answer a) (text_of_answer a)
+      steps_shown form.Trace asked text_is = outcome.Traced (record {
+        asked = asked;
+        prefix = prefix;
+        code_is = code_is;
+        text_is = text_followed (λ ls e. trace_text ls e.script e.config e.history after) (text_is refl);
+        steps_are = traces_runs script config (followed illegal entries) after run_followed;
+        lines_are = λ func pc f s at here. lines_spell (script_in input) script has.spelled func pc f s at here;
+      })
+      steps_shown form.Lanes asked text_is = outcome.Drawn (record { shown = form.Lanes; drawn = refl; asked = asked; prefix = prefix; code_is = code_is })
+      steps_shown form.Picture asked text_is = outcome.Drawn (record { shown = form.Picture; drawn = refl; asked = asked; prefix = prefix; code_is = code_is })
 
-    -- `trace`
-    steps_traced : (lines : List (List ℕ)) (text : List ℕ) (v : Verdict) → AsksFor words (inspection.Show (view.Steps form.Trace)) → lines ≡ statement_lines (script_in input)
-        → text ≡ trace_text lines engine.script engine.config engine.history after ++ notice illegal → v ≡ verdict_after engine after
-        → IsInspected words input (code_of (status_by illegal (status_of_verdict v))) text
-    steps_traced lines text v asked of_input text_is same = outcome.Traced (record {
-      asked = asked;
-      prefix = prefix;
-      code_is = code_is v same;
-      text_is =
-          text_is
-          ∙ ap (λ (e : EngineValue). trace_text lines e.script e.config e.history after ++ notice illegal) follows.engine_is
-          ∙ ap (λ (ls : List (List ℕ)). trace_text ls script config (followed illegal entries) after ++ notice illegal) of_input;
-      steps_are = traces_runs script config (followed illegal entries) after run_followed;
-      lines_are = λ func pc f s at here. lines_spell (script_in input) script has.spelled func pc f s at here;
-    })
+  -- the answer of a view of the state, unless memory ran out
+  pub state-answered : {E : Type 0} (engine : EngineValue) (illegal : Option ℕ) (after : Run) (lines : List (List ℕ)) (shown : View) (r : Result Answer E)
+      → Follows script config entries engine illegal → IsRunOf engine after → lines ≡ statement_lines (script_in input) → ((shown ≡ view.Choices) ⊎ (shown ≡ view.States))
+      → AsksFor words (inspection.Show shown) → IfOk r (ShowsState (state_text shown lines engine after) engine after illegal) → Answered words input r
+  state-answered engine illegal after lines shown (Ok a) follows is_run of_input of_state asked shows = state_listed engine illegal follows after is_run a shows.status_is lines of_input shown of_state asked shows.text_is
+  state-answered engine illegal after lines shown (Err e) follows is_run of_input of_state asked shows = tt
 
-    -- a drawing
-    steps_drawn : (shown : Form) (text : List ℕ) (v : Verdict) → outcome.is_drawn shown ≡ true → AsksFor words (inspection.Show (view.Steps shown)) → v ≡ verdict_after engine after
-        → IsInspected words input (code_of (status_by illegal (status_of_verdict v))) text
-    steps_drawn shown text v drawn asked same = outcome.Drawn (record { shown = shown; drawn = drawn; asked = asked; prefix = prefix; code_is = code_is v same })
-
-  -- the answer of `choices`
-  pub choices-answer : (engine : EngineValue) (illegal : Option ℕ) (after : Run) (lines : List (List ℕ)) (text : List ℕ) (v : Verdict)
-      → Follows script config entries engine illegal → IsRunOf engine after → AsksFor words (inspection.Show view.Choices) → lines ≡ statement_lines (script_in input)
-      → ShowsState (choices_after lines engine after) engine after illegal text v → IsInspected words input (code_of (status_by illegal (status_of_verdict v))) text
-  choices-answer engine illegal after lines text v follows is_run asked of_input shows = choices_listed engine illegal follows after is_run lines text v asked of_input shows
-
-  -- the answer of `states`
-  pub states-answer : (engine : EngineValue) (illegal : Option ℕ) (after : Run) (lines : List (List ℕ)) (text : List ℕ) (v : Verdict)
-      → Follows script config entries engine illegal → IsRunOf engine after → AsksFor words (inspection.Show view.States) → lines ≡ statement_lines (script_in input)
-      → ShowsState (states_after lines engine after) engine after illegal text v → IsInspected words input (code_of (status_by illegal (status_of_verdict v))) text
-  states-answer engine illegal after lines text v follows is_run asked of_input shows = states_listed engine illegal follows after is_run lines text v asked of_input shows
-
-  -- the answer that shows the steps in a form
-  pub steps-answer : (shown : Form) (illegal : Option ℕ) (lines : List (List ℕ)) (text : List ℕ) (v : Verdict) (a : Answer)
-      → AsksFor words (inspection.Show (view.Steps shown)) → lines ≡ statement_lines (script_in input)
-      → ShowsTrace lines script config entries illegal text v → IsInForm shown illegal text v a → IsInspected words input (code_of_answer a) (text_of_answer a)
-  steps-answer form.Trace illegal lines text v a asked of_input shows in_form =
-      subst (λ s. IsInspected words input (code_of s) (text_of_answer a)) (sym in_form.status_is)
-      (subst (λ (t : List ℕ). IsInspected words input (code_of (status_by illegal (status_of_verdict v))) t) (sym (in_form.text_is refl))
-      (steps_traced shows.engine illegal shows.follows shows.after shows.is_run lines text v asked of_input shows.text_is shows.verdict_is))
-  steps-answer form.Lanes illegal lines text v a asked of_input shows in_form =
-      subst (λ s. IsInspected words input (code_of s) (text_of_answer a)) (sym in_form.status_is)
-      (steps_drawn shows.engine illegal shows.follows shows.after shows.is_run form.Lanes (text_of_answer a) v refl asked shows.verdict_is)
-  steps-answer form.Picture illegal lines text v a asked of_input shows in_form =
-      subst (λ s. IsInspected words input (code_of s) (text_of_answer a)) (sym in_form.status_is)
-      (steps_drawn shows.engine illegal shows.follows shows.after shows.is_run form.Picture (text_of_answer a) v refl asked shows.verdict_is)
-
-  -- so is what shows them, unless memory ran out
+  -- the answer that shows the steps in a form, unless memory ran out
   pub steps-answered : {E : Type 0} (shown : Form) (illegal : Option ℕ) (lines : List (List ℕ)) (text : List ℕ) (v : Verdict) (r : Result Answer E)
       → AsksFor words (inspection.Show (view.Steps shown)) → lines ≡ statement_lines (script_in input)
       → ShowsTrace lines script config entries illegal text v → IfOk r (IsInForm shown illegal text v) → Answered words input r
-  steps-answered shown illegal lines text v (Ok a) asked of_input shows in_form = steps-answer shown illegal lines text v a asked of_input shows in_form
+  steps-answered shown illegal lines text v (Ok a) asked of_input shows in_form =
+      steps_shown shows.engine illegal shows.follows shows.after shows.is_run a (in_form.status_is ∙ ap (λ (w : Verdict). status_by illegal (status_of_verdict w)) shows.verdict_is) lines of_input shown asked
+      (λ is. in_form.text_is is ∙ shows.text_is)
   steps-answered shown illegal lines text v (Err e) asked of_input shows in_form = tt

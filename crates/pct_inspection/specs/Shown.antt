@@ -1,5 +1,5 @@
 -- What the functions below `inspect` promise of the views.
-use Rattle.std.specs.Prelude.{◌≡◌, ℕ, List, ◌++◌, length, Option, Some}
+use Rattle.std.specs.Prelude.{◌≡◌, ℕ, List, [], ◌++◌, length, Option, Some}
 use Rattle.pct_model.specs.declared.schedule.Config.{Config}
 use Rattle.pct_model.specs.declared.schedule.Entry.{Entry}
 use Rattle.pct_model.specs.declared.script.Script.{Script}
@@ -14,6 +14,8 @@ use Rattle.pct_view_texts.specs.Trace.{trace_text}
 use Rattle.pct_inspection.specs.declared.answer.Answer.{Answer}
 use Rattle.pct_inspection.specs.declared.words.Form.{Form}
 use Rattle.pct_inspection.specs.declared.words.Form.TheVariants as form
+use Rattle.pct_inspection.specs.declared.words.View.{View}
+use Rattle.pct_inspection.specs.declared.words.View.TheVariants as view
 use Rattle.pct_inspection.specs.Answer.{status_by, status_of_answer, text_of_answer}
 use Rattle.pct_inspection.specs.Inspection.{notice}
 
@@ -21,18 +23,16 @@ use Rattle.pct_inspection.specs.Inspection.{notice}
 abbrev pub verdict_after : EngineValue → Run → Verdict
 verdict_after engine after = verdict_of engine.script engine.config after.world (length engine.history)
 
--- the text of a view of the state and the notice, and the verdict, after the run of an engine that followed a prefix
-pub record ShowsState (shown : List ℕ) (engine : EngineValue) (after : Run) (illegal : Option ℕ) (text : List ℕ) (v : Verdict) : Type 0 where
-  pub text_is : text ≡ shown ++ notice illegal
-  pub verdict_is : v ≡ verdict_after engine after
+-- what a view shows of the state after the run of an engine: a view of the steps shows nothing of it
+abbrev pub state_text : View → List (List ℕ) → EngineValue → Run → List ℕ
+state_text view.Choices lines engine after = choices_text lines engine.script engine.config after.world (length engine.history)
+state_text view.States lines engine after = states_text lines engine.script engine.config after.world (length engine.history)
+state_text (view.Steps shown) lines engine after = []
 
--- the text of `choices` after the run of an engine
-abbrev pub choices_after : List (List ℕ) → EngineValue → Run → List ℕ
-choices_after lines engine after = choices_text lines engine.script engine.config after.world (length engine.history)
-
--- that of `states`
-abbrev pub states_after : List (List ℕ) → EngineValue → Run → List ℕ
-states_after lines engine after = states_text lines engine.script engine.config after.world (length engine.history)
+-- the answer that shows this text of the state after the run of an engine that followed a prefix, and the notice
+pub record ShowsState (shown : List ℕ) (engine : EngineValue) (after : Run) (illegal : Option ℕ) (a : Answer) : Type 0 where
+  pub status_is : status_of_answer a ≡ status_by illegal (status_of_verdict (verdict_after engine after))
+  pub text_is : text_of_answer a ≡ shown ++ notice illegal
 
 -- the text of `trace` and the notice, and the verdict, of the run of the entries of a prefix up to the first that is not legal, which has this
 -- number

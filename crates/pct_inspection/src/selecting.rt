@@ -1,7 +1,7 @@
 //! The words of a selection, which says what `lanes` and `picture` leave out.
 
 ghost use Rattle.std.specs.Prelude.{◌≡◌, map, option_map, string_bytes};
-ghost use Rattle.pct_inspection.specs.Selections.{are_threads, is_thread, option_named, selection_asked, steps_of, with_events, with_option, with_value, with_word};
+ghost use Rattle.pct_inspection.specs.Selections.{are_threads, is_thread, option_named, selection_asked, steps_of, with_events, with_value, with_word};
 ghost use Rattle.pct_model.specs.Lines.{split_once};
 ghost use Rattle.pct_inspection.specs.SelectionValues.{begun_value, selection_value};
 
@@ -33,11 +33,7 @@ pub(crate) fn read_selection(words: &[String]) -> Option<Selection<'_>>
     ensures { option_map selection_value result ≡ selection_asked (map string_bytes words.now) }
 {
     let mut begun = Begun {
-        selection: Selection {
-            steps: None,
-            threads: None,
-            events: false,
-        },
+        selection: Selection::ALL,
         option: None,
     };
     for word in words {
@@ -54,10 +50,19 @@ pub(crate) fn read_selection(words: &[String]) -> Option<Selection<'_>>
 fn with_word<'a>(begun: Begun<'a>, word: &'a [u8]) -> Option<Begun<'a>>
     ensures { option_map begun_value result ≡ with_word (begun_value begun.entry) word.now }
 {
-    match begun.option {
-        Some(option) => with_value(begun.selection, option, word),
-        None if word == b"--events".as_slice() => with_events(begun.selection),
-        None => with_option(begun.selection, word),
+    let selection = begun.selection;
+    if let Some(option) = begun.option {
+        return with_value(selection, option, word);
+    }
+    if word == b"--events".as_slice() {
+        return with_events(selection);
+    }
+    match split_once(word, b'=') {
+        Some((name, value)) => with_value(selection, option_named(name)?, value),
+        None => Some(Begun {
+            selection,
+            option: Some(option_named(word)?),
+        }),
     }
 }
 
@@ -75,19 +80,6 @@ fn with_events(selection: Selection<'_>) -> Option<Begun<'_>>
             },
             option: None,
         })
-    }
-}
-
-// The selection with an option and its value in one word, or with the name of an option.
-fn with_option<'a>(selection: Selection<'a>, word: &'a [u8]) -> Option<Begun<'a>>
-    ensures { option_map begun_value result ≡ with_option (selection_value selection.entry) word.now (split_once 61 word.now) }
-{
-    match split_once(word, b'=') {
-        Some((name, value)) => with_value(selection, option_named(name)?, value),
-        None => Some(Begun {
-            selection,
-            option: Some(option_named(word)?),
-        }),
     }
 }
 

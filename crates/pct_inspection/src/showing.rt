@@ -6,10 +6,9 @@ ghost use Rattle.pct_model.specs.Run.{Run, is_config};
 ghost use Rattle.pct_model.specs.declared.limits.TheConstants.{MAX_INPUT};
 ghost use Rattle.pct_view_texts.specs.TextBuffers.{text_in, Appends};
 ghost use Rattle.pct_inspection.specs.declared.words.Inspection.TheVariants as inspection;
-ghost use Rattle.pct_command.specs.Answer.{status_of_verdict};
-ghost use Rattle.pct_inspection.specs.Answer.{Answered, AsksFor, HasParts, status_by, status_of_answer, text_of_answer};
+ghost use Rattle.pct_inspection.specs.Answer.{Answered, AsksFor, HasParts};
 ghost use Rattle.pct_inspection.specs.Inspection.{notice, script_in};
-ghost use Rattle.pct_inspection.specs.Shown.{IsInForm, ShowsState, ShowsTrace, choices_after, states_after};
+ghost use Rattle.pct_inspection.specs.Shown.{IsInForm, ShowsState, ShowsTrace, state_text};
 
 use crate::answer::Answer;
 use crate::answer_writer::write_notice;
@@ -33,19 +32,13 @@ pub(crate) struct Parts<'a> {
     pub prefix: &'a [u8],
 }
 
-// The text of a view, with the notice; the verdict of the run that it shows; and the number of the first entry of the prefix that is
-// not legal, if there is one.
+// The steps of a run: what `trace` shows with the notice, the verdict, and the number of the first entry of the prefix that is not legal, if
+// there is one; and the text of `choices` after the steps, if that is drawn too.
 #[derive(Drop)]
-struct Shown {
+struct Steps {
     text: TextBuffer,
     verdict: Verdict,
     illegal: Option<u32>,
-}
-
-// The steps of a run: what `trace` shows, and the text of `choices` after them, if that is drawn too.
-#[derive(Drop)]
-struct Steps {
-    shown: Shown,
     state: TextBuffer,
 }
 
@@ -64,17 +57,13 @@ pub(crate) fn show_script(
     let lines = statement_lines(alloc, parts.text)?;
     match read_prefix(alloc, parts.prefix) {
         Ok((config, entries)) => match view {
-            View::Choices => {
+            View::Choices | View::States => {
                 let (engine, illegal) = follow(alloc, script, config, entries.as_slice())?;
-                Ok(answer_of(choices(alloc, &lines, &engine, illegal)?))
-            }
-            View::States => {
-                let (engine, illegal) = follow(alloc, script, config, entries.as_slice())?;
-                Ok(answer_of(states(alloc, &lines, &engine, illegal)?))
+                show_state(alloc, view, &lines, &engine, illegal)
             }
             View::Steps(form) => {
-                let engine = Engine::open(alloc, script, config)?;
-                let steps = trace(alloc, &lines, engine, entries.as_slice(), form)?;
+                let mut engine = Engine::open(alloc, script, config)?;
+                let steps = trace(alloc, &lines, &mut engine, entries.as_slice(), form)?;
                 in_form(alloc, form, selection, steps)
             }
         },
@@ -85,61 +74,43 @@ pub(crate) fn show_script(
     }
 }
 
-// The text of `choices` after the run of an engine that followed a prefix.
-fn choices(
+// The answer that shows a view of the state after the run of an engine that followed a prefix.
+fn show_state(
     alloc: Global,
+    view: View,
     lines: &StatementLines,
     engine: &Engine,
     illegal: Option<u32>,
-) -> Result<Shown, NoMemory>
-    ensures illegal { IfOk result (λ shown. shown.illegal ≡ illegal) }
+) -> Result<Answer, NoMemory>
     // The run of the entries is defined, for every engine.
     ensures runs { (after : Run) × IsRunOf engine.now after }
-    ensures shown { (after : Run) → IsRunOf engine.now after → IfOk result (λ shown. ShowsState (choices_after lines.now engine.now after) engine.now after illegal (text_in shown.text) shown.verdict) }
+    ensures shown { (after : Run) → IsRunOf engine.now after → IfOk result (ShowsState (state_text view lines.now engine.now after) engine.now after illegal) }
 {
     let verdict = engine.verdict();
     let mut text = TextBuffer::new(alloc);
-    push_choices(&mut text, lines, engine)?;
+    push_state(alloc, &mut text, view, lines, engine)?;
     push_notice(&mut text, illegal)?;
-    Ok(Shown {
-        text,
+    Ok(Answer::Shown {
+        text: text.into_bytes(),
         verdict,
         illegal,
     })
 }
 
-// The text of `states` after the run of an engine that followed a prefix.
-fn states(
+// Appends the text of a view of the state after the run of an engine.
+fn push_state(
     alloc: Global,
+    text: &mut TextBuffer,
+    view: View,
     lines: &StatementLines,
     engine: &Engine,
-    illegal: Option<u32>,
-) -> Result<Shown, NoMemory>
-    ensures illegal { IfOk result (λ shown. shown.illegal ≡ illegal) }
-    // The run of the entries is defined, for every engine.
-    ensures runs { (after : Run) × IsRunOf engine.now after }
-    ensures shown { (after : Run) → IsRunOf engine.now after → IfOk result (λ shown. ShowsState (states_after lines.now engine.now after) engine.now after illegal (text_in shown.text) shown.verdict) }
+) -> Result<(), NoMemory>
+    ensures { (after : Run) → IsRunOf engine.now after → Appends text.old text.new (state_text view lines.now engine.now after) result }
 {
-    let verdict = engine.verdict();
-    let mut text = TextBuffer::new(alloc);
-    push_states(alloc, &mut text, lines, engine)?;
-    push_notice(&mut text, illegal)?;
-    Ok(Shown {
-        text,
-        verdict,
-        illegal,
-    })
-}
-
-// The answer that shows a text as it is.
-fn answer_of(shown: Shown) -> Answer
-    ensures status { status_of_answer result ≡ status_by shown.illegal (status_of_verdict shown.verdict) }
-    ensures text { text_of_answer result ≡ text_in shown.text }
-{
-    Answer::Shown {
-        text: shown.text.into_bytes(),
-        verdict: shown.verdict,
-        illegal: shown.illegal,
+    match view {
+        View::Choices => push_choices(text, lines, engine),
+        View::States => push_states(alloc, text, lines, engine),
+        View::Steps(_) => Ok(()),
     }
 }
 
@@ -148,26 +119,23 @@ fn answer_of(shown: Shown) -> Answer
 fn trace(
     alloc: Global,
     lines: &StatementLines,
-    engine: Engine,
+    engine: &mut Engine,
     entries: &[Entry],
     form: Form,
 ) -> Result<Steps, NoMemory>
-    requires opened { engine.history ≡ [] }
-    requires config { IsTrue (is_config engine.config) }
-    requires few { length entries.now ≤ engine.config.budget }
-    ensures { IfOk result (λ steps. ShowsTrace lines.now engine.script engine.config entries.now steps.shown.illegal (text_in steps.shown.text) steps.shown.verdict) }
+    requires opened { engine.old.history ≡ [] }
+    requires config { IsTrue (is_config engine.old.config) }
+    requires few { length entries.now ≤ engine.old.config.budget }
+    ensures { IfOk result (λ steps. ShowsTrace lines.now engine.old.script engine.old.config entries.now steps.illegal (text_in steps.text) steps.verdict) }
 {
-    let mut engine = engine;
     let mut text = TextBuffer::new(alloc);
-    let illegal = push_trace(&mut text, lines, &mut engine, entries)?;
+    let illegal = push_trace(&mut text, lines, engine, entries)?;
     push_notice(&mut text, illegal)?;
-    let state = state_in_form(alloc, lines, &engine, form)?;
+    let state = state_in_form(alloc, lines, engine, form)?;
     Ok(Steps {
-        shown: Shown {
-            text,
-            verdict: engine.verdict(),
-            illegal,
-        },
+        text,
+        verdict: engine.verdict(),
+        illegal,
         state,
     })
 }
@@ -194,17 +162,16 @@ fn in_form(
     selection: Selection,
     steps: Steps,
 ) -> Result<Answer, NoMemory>
-    ensures { IfOk result (IsInForm form steps.shown.illegal (text_in steps.shown.text) steps.shown.verdict) }
+    ensures { IfOk result (IsInForm form steps.illegal (text_in steps.text) steps.verdict) }
 {
-    let shown = steps.shown;
-    let verdict = shown.verdict;
-    let illegal = shown.illegal;
+    let verdict = steps.verdict;
+    let illegal = steps.illegal;
     let text = match form {
-        Form::Trace => shown.text.into_bytes(),
-        Form::Lanes => lanes(alloc, shown.text.as_slice(), selection)?,
+        Form::Trace => steps.text.into_bytes(),
+        Form::Lanes => lanes(alloc, steps.text.as_slice(), selection)?,
         Form::Picture => picture(
             alloc,
-            shown.text.as_slice(),
+            steps.text.as_slice(),
             steps.state.as_slice(),
             selection,
         )?,

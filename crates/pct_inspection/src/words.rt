@@ -1,14 +1,14 @@
 //! The words after the program's name.
 
 ghost use Rattle.std.specs.Prelude.{◌≡◌, map, string_bytes};
-ghost use Rattle.pct_inspection.specs.Words.{allows, continuation_asked, inspection_asked, view_asked, view_named};
+ghost use Rattle.pct_inspection.specs.Words.{continuation_asked, inspection_asked, view_asked, view_named};
 
 use crate::selecting::read_selection;
 use pct_lanes::Selection;
 use pct_options::read_seed;
 
 /// A form in which the steps of a run are shown.
-#[derive(Clone, Copy, Debug, PartialEq, Eq)]
+#[derive(Clone, Copy)]
 pub enum Form {
     /// A line for each step, with the statement that it takes.
     Trace,
@@ -19,7 +19,7 @@ pub enum Form {
 }
 
 /// A view of a run.
-#[derive(Clone, Copy, Debug, PartialEq, Eq)]
+#[derive(Clone, Copy)]
 pub enum View {
     /// Where each thread is, what it waits for, and its legal entries.
     Choices,
@@ -30,7 +30,7 @@ pub enum View {
 }
 
 /// What the words ask for.
-#[derive(Clone, Copy, Debug, PartialEq, Eq)]
+#[derive(Clone, Copy)]
 pub enum Inspection {
     /// Go on with a run as this seed chooses, and write the report.
     Continue(u64),
@@ -66,20 +66,14 @@ fn continuation_asked(words: &[String]) -> Option<Inspection>
 fn view_asked(words: &[String], view: View) -> Option<Inspection>
     ensures { result ≡ view_asked (map string_bytes words.now) view }
 {
-    if allows(view, words) {
+    let accepted = match view {
+        View::Steps(Form::Lanes) | View::Steps(Form::Picture) => read_selection(words).is_some(),
+        View::Steps(Form::Trace) | View::Choices | View::States => words.is_empty(),
+    };
+    if accepted {
         Some(Inspection::Show(view))
     } else {
         None
-    }
-}
-
-// Whether these words are accepted after the name of a view.
-fn allows(view: View, words: &[String]) -> bool
-    ensures { result ≡ allows view (map string_bytes words.now) }
-{
-    match view {
-        View::Steps(Form::Lanes) | View::Steps(Form::Picture) => read_selection(words).is_some(),
-        View::Steps(Form::Trace) | View::Choices | View::States => words.is_empty(),
     }
 }
 

@@ -2,11 +2,8 @@
 use Rattle.std.proofs.Common.{ℕ, ◌+◌, List, ◌++◌, Option, length, take, sym, subst, arith, length-append}
 use Rattle.std.proofs.Math.Seq.{take-append-add, take-append-le}
 use Rattle.std.specs.Io.KnownBytes.{Appends}
-use Rattle.std.proofs.KnownBytes.{Appends-trans, Appends-nil}
+use Rattle.std.proofs.KnownBytes.{Appends-trans}
 use Rattle.pct_io.specs.Sinks.{AppendsPrefix}
-
-pub Appends-then : (old mid new : Option (List ℕ)) (a b : List ℕ) → Appends old mid a → Appends mid new b → Appends old new (a ++ b)
-Appends-then = Appends-trans
 
 -- a prefix of a text is a prefix of a longer text
 pub AppendsPrefix-more : (old new : Option (List ℕ)) (a b : List ℕ) → AppendsPrefix old new a → AppendsPrefix old new (a ++ b)
@@ -23,7 +20,3 @@ AppendsPrefix-after old mid new a b whole part = (
   omega (arith, length-append a b, part.1),
   subst (Appends old new) (sym (take-append-add a b part.0)) (Appends-trans old mid new a (take part.0 b) whole part.2),
 )
-
--- the empty prefix of a text
-pub AppendsPrefix-none : (old : Option (List ℕ)) (a : List ℕ) → AppendsPrefix old old a
-AppendsPrefix-none old a = (0, omega arith, Appends-nil old)

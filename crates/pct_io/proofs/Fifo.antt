@@ -1,22 +1,10 @@
 -- Lemmas on bytes that pass through a buffer.
 use Rattle.std.proofs.Common.{◌≡◌, ℕ, List, [], ◌++◌, Option, Result, Ok, Err, take, sym, ap, ◌∙◌, append_assoc}
 use Rattle.std.proofs.lemmas.List.{append-nil}
-use Rattle.std.specs.Io.KnownBytes.{Appends, WriteAppends}
+use Rattle.std.specs.Io.KnownBytes.{WriteAppends}
 use Rattle.std.proofs.KnownBytes.{Appends-trans, Appends-nil, Appends-kept}
 use Rattle.pct_io.specs.Sinks.{accepted_of}
 use Rattle.pct_io.specs.Buffered.{IsFifo}
-
--- nothing was accepted or sent
-pub IsFifo-idle : (known : Option (List ℕ)) (buffer : List ℕ) → IsFifo known known buffer buffer []
-IsFifo-idle known buffer = record { sent = []; order = sym (append-nil buffer); gained = Appends-nil known }
-
--- bytes were accepted into the buffer
-pub IsFifo-filled : (known : Option (List ℕ)) (old new accepted : List ℕ) → new ≡ old ++ accepted → IsFifo known known old new accepted
-IsFifo-filled known old new accepted grown = record { sent = []; order = grown; gained = Appends-nil known }
-
--- a prefix of the buffer was sent
-pub IsFifo-sent : (before after : Option (List ℕ)) (old new sent : List ℕ) → Appends before after sent → sent ++ new ≡ old → IsFifo before after old new []
-IsFifo-sent before after old new sent gained split = record { sent = sent; order = split ∙ sym (append-nil old); gained = gained }
 
 -- a piece was sent past an empty buffer
 pub IsFifo-direct : {E : Type 0} (before after : Option (List ℕ)) (buffer piece : List ℕ) (r : Result ℕ E) → buffer ≡ [] → WriteAppends before after r piece → IsFifo before after buffer buffer (accepted_of r piece)

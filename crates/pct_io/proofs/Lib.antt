@@ -2,7 +2,6 @@ pub mod ErrorCounts
 pub mod Appending
 pub mod Unchanged
 pub mod WritesInTurn
-pub mod ReadsInFull
 pub mod Prefixes
 pub mod Fifo
 pub mod BufferedWrites

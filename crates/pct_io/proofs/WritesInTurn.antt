@@ -1,5 +1,5 @@
 -- Lemmas on a text that is written in several calls.
-use Rattle.std.proofs.Common.{◌≡◌, ℕ, ◌+◌, ◌<◌, ◌≤◌, List, [], ◌++◌, Option, Result, Ok, Err, length, get_or, drop, refl, sym, ap, subst, arith, ◌∙◌}
+use Rattle.std.proofs.Common.{◌≡◌, ℕ, ◌+◌, ◌<◌, ◌≤◌, List, [], ◌++◌, Option, Result, Ok, Err, length, get_or, drop, refl, sym, ap, subst, ◌∙◌}
 use Rattle.std.specs.List.{flat_map}
 use Rattle.std.proofs.lemmas.Grind.{flat_map-append}
 use Rattle.std.proofs.lemmas.List.{at_drop_more, at_drop_all}
@@ -7,7 +7,7 @@ use Rattle.std.proofs.KnownBytes.{Appends-trans, Appends-nil}
 use Rattle.pct_io.specs.declared.failed.Failed.{Failed}
 use Rattle.pct_io.specs.Inners.{Inner}
 use Rattle.pct_io.specs.Writes.{Writes}
-use Rattle.pct_io.proofs.ErrorCounts.{Rose-never_falls, Rose-unchanged}
+use Rattle.pct_io.proofs.ErrorCounts.{Rose-unchanged}
 use Rattle.pct_io.proofs.Appending.{AppendsPrefix-more, AppendsPrefix-after}
 use Rattle.pct_io.proofs.Unchanged.{KeepsInners-refl, KeepsInners-trans}
 
@@ -21,11 +21,6 @@ module _ {S : Type 0} {written_of : S → Option (List ℕ)} {errors_of : S → 
     cause = tt;
     inners = KeepsInners-refl (inners_of sink);
   }
-
-  -- a write of a text does not lower the count of errors
-  pub Writes-never_falls : {old new : S} {text : List ℕ} (r : Result (Unit {0}) Failed) → Writes written_of errors_of inners_of old new text r → errors_of old ≤ errors_of new
-  Writes-never_falls (Ok x) writes = omega (arith, writes.no_error)
-  Writes-never_falls {old = old} {new = new} (Err e) writes = Rose-never_falls (errors_of old) (errors_of new) writes.cause
 
   -- a whole text, followed by the result of the next text
   pub Writes-then : {old mid new : S} {a b : List ℕ} {x : Unit {0}} (r : Result (Unit {0}) Failed)

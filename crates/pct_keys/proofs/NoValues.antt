@@ -1,7 +1,8 @@
 -- The data of a thread without values: none of its places is due, or left in a pass.
 use Rattle.pct_names.proofs.Names.{◌&&◌, ◌+◌, [], ap, Bool, cond, due_places, false, filter, is_due, is_left, is_some, key_at, KeyPlace}
-use Rattle.pct_names.proofs.Names.{KeyValues, left_places, List, map, MAX_KEYS, nat_eq, no_values, not, option_map_or, range_with_len, refl}
-use Rattle.pct_names.proofs.Names.{replicate, slice_get, slice_set, suc, true, with_pass, without_value, zero, ℕ, ◌∙◌, ◌∷◌, ◌≡◌}
+use Rattle.pct_names.proofs.Names.{KeyValues, left_places, List, MAX_KEYS, nat_eq, no_values, not, option_map_or, range_with_len, refl}
+use Rattle.pct_names.proofs.Names.{replicate, slice_get, slice_set, suc, without_value, zero, ℕ, ◌∙◌, ◌∷◌, ◌≡◌}
+use mathlib.Core.Bool.{and-false}
 use Rattle.pct_keys.proofs.SoundTables.{IsClear-no_values}
 
 -- ---- lists
@@ -11,19 +12,11 @@ set-replicate zero i x = refl
 set-replicate (suc n) zero x = refl
 set-replicate (suc n) (suc i) x = ap (λ xs. x ∷ xs) (set-replicate n i x)
 
-map-replicate : {X Y : Type 0} (f : X → Y) (n : ℕ) (x : X) → map f (replicate n x) ≡ replicate n (f x)
-map-replicate f zero x = refl
-map-replicate f (suc n) x = ap (λ ys. f x ∷ ys) (map-replicate f n x)
-
 filter-fails : (test : ℕ → Bool) → ((i : ℕ) → test i ≡ false) → (first n : ℕ) → filter test (range_with_len first n) ≡ []
 filter-fails test fails first zero = refl
 filter-fails test fails first (suc n) =
     let rest : List ℕ = filter test (range_with_len (first + 1) n) in
     ap (λ passes. cond passes (first ∷ rest) rest) (fails first) ∙ filter-fails test fails (first + 1) n
-
-and-false : (b : Bool) → (b && false) ≡ false
-and-false true = refl
-and-false false = refl
 
 -- ---- changes
 
@@ -33,12 +26,6 @@ without_value-none place =
     let of_values : List ℕ → KeyValues = λ values. record { values = values; in_pass = slice_set no_values.in_pass place false } in
     let of_marks : List Bool → KeyValues = λ marks. record { values = no_values.values; in_pass = marks } in
     ap of_values (set-replicate MAX_KEYS place 0) ∙ ap of_marks (set-replicate MAX_KEYS place false)
-
--- a pass takes no place
-pub with_pass-none : with_pass no_values ≡ no_values
-with_pass-none =
-    let of_marks : List Bool → KeyValues = λ marks. record { values = no_values.values; in_pass = marks } in
-    ap of_marks (map-replicate (λ value. not (nat_eq value 0)) MAX_KEYS 0)
 
 -- ---- places
 

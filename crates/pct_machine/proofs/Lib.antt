@@ -1,5 +1,5 @@
 mod FittingTransitions
-mod StepsOfProcess
+pub mod StepsOfProcess
 mod LegalEntries
 mod HeldSlots
 mod ChangedLists

@@ -4,6 +4,7 @@ use Rattle.pct_names.proofs.Names.{drop, entry_of, entry_of_parts, entry_of_word
 use Rattle.pct_names.proofs.Names.{is_number, keyword_text, length, List, nat_eq, nat_le, None, number_of, numbered_choice, Option}
 use Rattle.pct_names.proofs.Names.{option_map, option_map_or, refl, Some, split_once, starts_with, sym, take, take_rest, true, words_of, ℕ}
 use Rattle.pct_names.proofs.Names.{◌∙◌, ◌∷◌, ◌≡◌}
+use mathlib.Core.Bool.{and-false}
 use Rattle.std.proofs.Common.{eq-eqb, eqb-true, ne_eqb, true≢false}
 use Rattle.pct_model.specs.declared.keyword.Keyword.TheVariants as keyword
 use Rattle.pct_model.specs.Schedule.{begins, is_end}
@@ -13,10 +14,6 @@ use Rattle.pct_text.proofs.SplitOnce.{lacks-uncons}
 use Rattle.pct_text.proofs.Numbers.{number_lacks}
 use Rattle.pct_text.proofs.Lines.{words_of-split_once, words_of-last, words_of-some}
 use Rattle.pct_schedule.proofs.Splits.{begins_with, header_in, choice_in, entry_in, end_in}
-
-and_false : (b : Bool) → (b && false) ≡ false
-and_false true = refl
-and_false false = refl
 
 and_more : (first word space rest : Bool) → (word && space) ≡ rest → ((first && word) && space) ≡ (first && rest)
 and_more true word space rest e = e
@@ -46,7 +43,7 @@ begins_end false other b bs (Some parts) e = ap (λ x. x && true) e
 begins_more : (blank : Bool) (b c : ℕ) (bs cs : List ℕ) (later : Option (List ℕ × List ℕ)) (rest : Bool) → (blank ≡ true → nat_eq c b ≡ false) → nat_eq c b ≡ nat_eq b c
     → rest ≡ first_is cs later → (nat_eq c b && rest) ≡ first_is (c ∷ cs) (with_first b bs blank later)
 begins_more true b c bs cs later rest lacks flipped e = ap (λ x. x && rest) (lacks refl)
-begins_more false b c bs cs None rest lacks flipped e = ap (λ r. nat_eq c b && r) e ∙ and_false (nat_eq c b)
+begins_more false b c bs cs None rest lacks flipped e = ap (λ r. nat_eq c b && r) e ∙ and-false (nat_eq c b)
 begins_more false b c bs cs (Some parts) rest lacks flipped e = ap (λ x. x && rest) flipped ∙ ap (λ r. nat_eq b c && r) e
 
 -- a line begins with a word and a space where the word is before the first space
@@ -254,7 +251,7 @@ end_number : (n : ℕ) (title number : List ℕ) (o : Option (List ℕ × List �
 end_number n title number None e = rw (words_of-last number e) refl
 end_number n title number (Some parts) e =
     ap (λ (o : Option ℕ). bytes_eq title (keyword_text keyword.End) && is_number n o) (no_number (number_of number) number parts refl e)
-    ∙ and_false (bytes_eq title (keyword_text keyword.End))
+    ∙ and-false (bytes_eq title (keyword_text keyword.End))
     ∙ sym (many_end_words n title parts.0 (words_of parts.1) (words_of-some parts.1)) ∙ ap (λ (words : List (List ℕ)). is_end_of_words n (title ∷ words)) (sym (words_of-split_once number parts e))
 
 end_by_one : (n : ℕ) (line : List ℕ) (o : Option (List ℕ × List ℕ)) → split_once 32 line ≡ o → end_in n line ≡ is_end_of_words n (words_of line)

@@ -1,12 +1,10 @@
 -- A schedule that is read is within its limits, and the sections of an input are in the input.
 use Rattle.pct_names.proofs.Names.{◌&&◌, ◌+◌, ◌++◌, ◌<◌, ◌>>=◌, [], Alt, and_from, and_parts, arith, Bool, bytes_eq, choice_of, cond}
 use Rattle.pct_names.proofs.Names.{cond_both, Config, config_of, decimal, digits_value, Entry, entry_of, entry_of_parts, entry_of_words}
-use Rattle.pct_names.proofs.Names.{Err, false, header_of, header_of_words, IfSome, is_config, is_marker, keyword_text, length}
-use Rattle.pct_names.proofs.Names.{length-slice_split, lines_of, List, list_all, list_all-append, marker_in, nat_eq, nat_le, nat_lt, None}
-use Rattle.pct_names.proofs.Names.{number_of, numbered_choice, Ok, onto_first, Option, refl, replay_parts, sched_of, Schedule, slice_split}
-use Rattle.pct_names.proofs.Names.{Some, split_at_marker, strip_cr, subst, suc, sym, true, without_empty_last, words_of, ℕ, ◌∙◌, ◌∷◌, ◌≡◌}
-use Rattle.pct_names.proofs.Names.{◌≤◌}
-use Rattle.std.proofs.Common.{ltb-true, leb-true, length-append}
+use Rattle.pct_names.proofs.Names.{Err, header_of, header_of_words, IfSome, is_config, keyword_text, length, lines_of, List, list_all}
+use Rattle.pct_names.proofs.Names.{list_all-append, nat_le, nat_lt, None, number_of, numbered_choice, Ok, Option, refl, sched_of, Schedule}
+use Rattle.pct_names.proofs.Names.{Some, strip_cr, subst, sym, true, words_of, ℕ, ◌∙◌, ◌∷◌, ◌≡◌}
+use Rattle.std.proofs.Common.{ltb-true, length-append}
 use Rattle.pct_model.specs.declared.schedule.Alt.TheVariants as alt
 use Rattle.pct_model.specs.declared.refusal.ScheduleWhy.TheVariants as why
 use Rattle.pct_model.specs.declared.keyword.Keyword.TheVariants as keyword
@@ -166,57 +164,3 @@ text_within to text config entries e =
 -- and so is its schedule
 pub sched_within : (text : List ℕ) (config : Config) (entries : List Entry) → sched_of text ≡ Ok (config, entries) → IsSchedule config entries
 sched_within text config entries e = text_within end.Required text config entries e
-
--- ---- the sections of an input
-
--- the bytes of lines, with an LF after each
-lines_size : List (List ℕ) → ℕ
-lines_size [] = 0
-lines_size (line ∷ lines) = length line + 1 + lines_size lines
-
-onto_first_size : (b : ℕ) (lines : List (List ℕ)) → 0 < length lines → lines_size (onto_first b lines) ≡ lines_size lines + 1
-unfolding lines_size
-onto_first_size b [] some = absurd (omega arith)
-onto_first_size b (line ∷ lines) some = omega arith
-
-split_step_size : (ends : Bool) (b : ℕ) (size : ℕ) (lines : List (List ℕ)) → 0 < length lines → lines_size lines ≡ size + 1 → lines_size (cond ends ([] ∷ lines) (onto_first b lines)) ≡ suc size + 1
-unfolding lines_size
-split_step_size true b size lines some e = omega (arith, e)
-split_step_size false b size lines some e = omega (arith, e, onto_first_size b lines some)
-
--- the pieces of a text, with an LF after each, are the text with one more LF
-split_size : (text : List ℕ) → lines_size (slice_split (λ b. nat_eq b 10) text) ≡ length text + 1
-unfolding lines_size
-split_size [] = refl
-split_size (b ∷ bytes) =
-    let lines = slice_split (λ x. nat_eq x 10) bytes in
-    split_step_size (nat_eq b 10) b (length bytes) lines (omega (arith, length-slice_split (λ x. nat_eq x 10) bytes)) (split_size bytes)
-
-without_last_size : (lines : List (List ℕ)) → lines_size (without_empty_last lines) ≤ lines_size lines
-unfolding lines_size
-without_last_size [] = omega arith
-without_last_size ([] ∷ []) = omega arith
-without_last_size ((b ∷ bs) ∷ []) = omega arith
-without_last_size ([] ∷ next ∷ lines) = omega (arith, without_last_size (next ∷ lines))
-without_last_size ((b ∷ bs) ∷ next ∷ lines) = omega (arith, without_last_size (next ∷ lines))
-
--- a marker among the lines begins before their last LF
-marker_within : (size offset : ℕ) (lines : List (List ℕ)) → offset + lines_size lines ≤ size + 1 → IfSome (marker_in offset lines) (λ offsets. offsets.0 ≤ size)
-unfolding marker_in lines_size
-marker_within size offset [] most = tt
-marker_within size offset (line ∷ lines) most =
-    cond_both (is_marker line) (Some (offset, offset + length line + 1)) (marker_in (offset + length line + 1) lines) (λ o. IfSome o (λ offsets. offsets.0 ≤ size))
-    (λ _. omega arith) (λ _. marker_within size (offset + length line + 1) lines (omega arith))
-
-offsets_within : (size : ℕ) (o : Option (ℕ × ℕ)) → IfSome o (λ offsets. offsets.0 ≤ size) → ((split_at_marker size o).0 ≤ size) × ((split_at_marker size o).1 ≤ size)
-offsets_within size None most = (omega arith, omega arith)
-offsets_within size (Some offsets) most =
-    (most, cond_both (nat_le offsets.1 size) offsets.1 size (λ n. n ≤ size) (λ e. leb-true offsets.1 size e) (λ _. omega arith))
-
--- the sections of an input begin and end in it
-pub parts_within : (input : List ℕ) → ((replay_parts input).0 ≤ length input) × ((replay_parts input).1 ≤ length input)
-unfolding replay_parts lines_of
-parts_within input =
-    let pieces = slice_split (λ b. nat_eq b 10) input in
-    offsets_within (length input) (marker_in 0 (lines_of input))
-    (marker_within (length input) 0 (without_empty_last pieces) (omega (arith, without_last_size pieces, split_size input)))

@@ -1,9 +1,9 @@
 -- Resolving the statements of a function and the functions of a script, one by one.
 use Rattle.pct_names.proofs.Names.{◌++◌, ◌>>=◌, [], and_parts, ap, Argument, argument_kinds_in, Bool, cond, declares, Fault, fault_at_line}
 use Rattle.pct_names.proofs.Names.{filter, find, first_of, Func, functions_in, is_declaration, is_function, is_none, is_statement, Line}
-use Rattle.pct_names.proofs.Names.{List, list_all, locals_of, map, None, Option, option_map, option_or, ParsedLine, ParseWhy, refl}
-use Rattle.pct_names.proofs.Names.{resolve_all, role_in, Section, Sections, sections_of, Some, split_sections, Stmt, sym, SymbolKind, true}
-use Rattle.pct_names.proofs.Names.{unknown_in, UnknownName, uses_unknown, ℕ, ◌∙◌, ◌∷◌, ◌≡◌}
+use Rattle.pct_names.proofs.Names.{List, list_all, locals_of, map, None, Option, option_map, option_or, ParsedLine, refl, resolve_all}
+use Rattle.pct_names.proofs.Names.{role_in, Section, Sections, sections_of, Some, split_sections, Stmt, sym, SymbolKind, true, unknown_in}
+use Rattle.pct_names.proofs.Names.{UnknownName, uses_unknown, ℕ, ◌∙◌, ◌∷◌, ◌≡◌}
 use Rattle.std.proofs.Common.{append-nil}
 use Rattle.pct_model.specs.declared.line_kind.SymbolKind.TheVariants as kind
 use Rattle.pct_script.specs.declared.fault.ParseFault.{ParseFault}
@@ -138,10 +138,6 @@ none_before : (o others : Option ℕ) → fault_at_line UnknownName o ≡ None �
 none_before None others e = refl
 none_before (Some n) others e = absurd cc
 
-some_before : (o others : Option ℕ) (line : ℕ) (why : ParseWhy) → fault_at_line UnknownName o ≡ Some (line, why) → fault_at_line UnknownName (option_or o others) ≡ Some (line, why)
-some_before None others line why e = absurd cc
-some_before (Some n) others line why e = e
-
 module _ (names : SymbolKind → List (List ℕ)) where
   functions_begin : (section : Section) (sections all : List Section) → all ≡ section ∷ sections → resolve_functions names all ≡ with_more (resolve_function names section) (resolve_functions names sections)
   unfolding resolve_functions
@@ -163,11 +159,6 @@ module _ (names : SymbolKind → List (List ℕ)) where
   -- the names of a function that resolves are known
   pub known_section : (section : Section) (sections rest : List Section) → unknown_in_section names section ≡ None → rest ≡ section ∷ sections → unknown_in_sections names sections ≡ unknown_in_sections names rest
   known_section section sections rest none first = none_before (unknown_in names section) (first_of (map (unknown_in names) sections)) none ∙ sym (ap (unknown_in_sections names) first)
-
-  -- the first unknown name of the first function is that of all
-  pub found_section : (e : ParseFault) (section : Section) (sections rest : List Section) → IsFoundBy (unknown_in_section names section) e → rest ≡ section ∷ sections → IsFoundBy (unknown_in_sections names rest) e
-  found_section fault.NoMemory section sections rest found first = tt
-  found_section (fault.Refused line why) section sections rest found first = ap (unknown_in_sections names) first ∙ some_before (unknown_in names section) (first_of (map (unknown_in names) sections)) line why found
 
   -- no functions have no unknown name
   pub no_section_unknown : (rest : List Section) → rest ≡ [] → unknown_in_sections names rest ≡ None

@@ -1,6 +1,7 @@
 -- Laws of sets of slots, for the crates that use them. `slots_agree` shows that two sets are equal, `has_where` computes
 -- whether a set has a slot, and the four laws after it turn each operation into a test of one slot.
 use Rattle.std.proofs.Common.{◌≡◌, refl, sym, ap, ◌∙◌, ℕ, zero, suc, ◌+◌, ◌<◌, ◌≤◌, Bool, true, false, ◌&&◌, ◌||◌, not, List, ◌∷◌, nat_eq, inl, inr, arith, le_refl}
+use mathlib.Core.Bool.{and-true}
 use Rattle.std.proofs.lemmas.Bool.{cases_eq, eqb-true, agree_below_at}
 use Rattle.std.proofs.lemmas.List.Elements.{All-filter}
 use Rattle.std.proofs.lemmas.List.FromFn.{get_or-range_with_len, length-range_with_len}
@@ -9,7 +10,7 @@ use Rattle.std.proofs.lemmas.Map.Views.{any-filter_same}
 use Rattle.std.specs.Prelude.{All, filter}
 use Rattle.std.specs.List.{range_with_len, list_any}
 use Rattle.std.specs.List.Sorted.{IsStrictlyIncreasing}
-use Rattle.pct_set.specs.Slots.{slots_where, has_slot, with_slot, without_slot, union_of, difference_of}
+use Rattle.pct_set.specs.Slots.{slots_where, has_slot, with_slot, without_slot}
 
 -- two tests that agree on a range keep the same numbers of it
 filter_range : (p q : ℕ → Bool) (a n : ℕ) → ((s : ℕ) → a ≤ s → s < a + n → p s ≡ q s)
@@ -25,14 +26,10 @@ pub slots_agree : (p q : ℕ → Bool) → ((s : ℕ) → s < 64 → p s ≡ q s
 unfolding slots_where
 slots_agree p q agree = filter_range p q 0 64 (λ s low high. agree s high)
 
-and_true : (b : Bool) → (b && true) ≡ b
-and_true true = refl
-and_true false = refl
-
 -- a filter keeps a number that the list has if it passes the test
 found_in : (p : ℕ → Bool) (s : ℕ) (xs : List ℕ) → list_any (λ k. nat_eq k s) xs ≡ true → list_any (λ k. nat_eq k s) (filter p xs) ≡ p s
 found_in p s xs listed =
-    any-filter_same (λ k. nat_eq k s) p (p s) (λ k same. ap p (eqb-true k s same)) xs ∙ ap (λ b. p s && b) listed ∙ and_true (p s)
+    any-filter_same (λ k. nat_eq k s) p (p s) (λ k same. ap p (eqb-true k s same)) xs ∙ ap (λ b. p s && b) listed ∙ and-true (p s)
 
 is_slot : (s : ℕ) → s < 64 → list_any (λ k. nat_eq k s) (range_with_len 0 64) ≡ true
 is_slot s small = agree_below_at (λ s. list_any (λ k. nat_eq k s) (range_with_len 0 64)) (λ _. true) 64 s refl small
@@ -50,14 +47,6 @@ module _ (p : ℕ → Bool) where
   -- `remove` from the set by a test
   pub without_slot-where : (slot : ℕ) → without_slot slot (slots_where p) ≡ slots_where (λ s. not (nat_eq s slot) && p s)
   without_slot-where slot = slots_agree _ _ (λ s small. rw (has_where p s small) refl)
-
-  -- `union` of sets by tests
-  pub union_of-where : (q : ℕ → Bool) → union_of (slots_where p) (slots_where q) ≡ slots_where (λ s. p s || q s)
-  union_of-where q = slots_agree _ _ (λ s small. rw (has_where p s small, has_where q s small) refl)
-
-  -- `minus` of sets by tests
-  pub difference_of-where : (q : ℕ → Bool) → difference_of (slots_where p) (slots_where q) ≡ slots_where (λ s. p s && not (q s))
-  difference_of-where q = slots_agree _ _ (λ s small. rw (has_where p s small, has_where q s small) refl)
 
 -- a set is determined by the slots that it has
 pub determined : (p : ℕ → Bool) → slots_where p ≡ slots_where (has_slot (slots_where p))

@@ -1,9 +1,8 @@
 -- The decimal text of a number, and the number that is read from it.
 use Rattle.pct_names.proofs.Names.{◌%◌, ◌&&◌, ◌*◌, ◌+◌, ◌++◌, ◌-◌, ◌/◌, ◌<◌, ◌>>=◌, [], and_from, and_parts, ap, arith, Bool, bytes_eq}
 use Rattle.pct_names.proofs.Names.{cond, cond_some, decimal, decimal_by_steps, decimal_digit, decimal_is_IsNumeral, decimal_step}
-use Rattle.pct_names.proofs.Names.{digit_glyph, digits, digits_onto, digits_value, false, is_digit, is_name, is_name_byte, length, List}
-use Rattle.pct_names.proofs.Names.{list_all, nat_eq, nat_le, None, not, not-true, number_of, Option, refl, Some, split_once, suc, sym, true}
-use Rattle.pct_names.proofs.Names.{zero, ℕ, ◌∙◌, ◌∷◌, ◌≡◌, ◌≤◌}
+use Rattle.pct_names.proofs.Names.{digit_glyph, digits, digits_onto, digits_value, false, is_digit, List, list_all, nat_eq, nat_le, None}
+use Rattle.pct_names.proofs.Names.{not, number_of, Option, refl, Some, split_once, suc, sym, true, zero, ℕ, ◌∙◌, ◌∷◌, ◌≡◌, ◌≤◌}
 use Rattle.std.proofs.Common.{le-leb, leb-true, ne_eqb, lt-ltb, true≢false, append-nil, append_assoc}
 use Rattle.pct_text.specs.Digits.{with_digit, with_next, number_from, number_in}
 use Rattle.pct_text.proofs.SplitOnce.{lacks_other}
@@ -205,11 +204,3 @@ decimal_lacks c n other = lacks_other is_digit c (decimal n) other (digits_of_de
 -- so does a word that is read as a number
 pub number_lacks : (c : ℕ) (w : List ℕ) (n : ℕ) → is_digit c ≡ false → number_of w ≡ Some n → split_once c w ≡ None
 number_lacks c w n other h = ap (split_once c) (number_takes w n h) ∙ decimal_lacks c n other
-
-no_name_of_digits : (w : List ℕ) → is_name w ≡ true → list_all is_digit w ≡ true → true ≡ false
-unfolding is_name
-no_name_of_digits [] h all = sym h
-no_name_of_digits (b ∷ bs) h all =
-    let parts = and_parts (not (is_digit b) && list_all is_name_byte (b ∷ bs)) (nat_le (length (b ∷ bs)) 31) h in
-    let begins = not-true (is_digit b) (and_parts (not (is_digit b)) (list_all is_name_byte (b ∷ bs)) parts.0).0 in
-    sym (and_parts (is_digit b) (list_all is_digit bs) all).0 ∙ begins

@@ -2,3 +2,4 @@ pub mod OfferedChoices
 pub mod TransitionCases
 pub mod CaseOfTransition
 pub mod PlacedStatements
+pub mod EnabledChoices

@@ -1,10 +1,8 @@
 -- Whether a thread has a choice, by its status, or by the statement at which it runs.
-use Rattle.pct_names.proofs.Names.{◌&&◌, ◌++◌, [], act_if, Alt, ap, Bool, called_kind, Cause, choices_at, dtor_or_go, ending_choices, false}
-use Rattle.pct_names.proofs.Names.{false≢true, first_row, Frame, go_if, if◌then◌else◌, is_asynchronous, is_blocked, is_create}
-use Rattle.pct_names.proofs.Names.{is_deliverable, is_enabled, is_forbidden_in_child, is_fork_kind, is_free_mutex, is_key_create}
-use Rattle.pct_names.proofs.Names.{is_optional, is_required, is_signal, left_keys, List, new_keys, new_or_go, NextStatement, not, Others}
-use Rattle.pct_names.proofs.Names.{pick_or_go, refl, running_choices, running_rows, SharedState, Stmt, sym, Thread, true, unblocked_acts}
-use Rattle.pct_names.proofs.Names.{Waiter, waiters_to_signal, ◌||◌, ℕ, ◌∙◌, ◌∷◌, ◌≡◌}
+use Rattle.pct_names.proofs.Names.{◌&&◌, ◌++◌, [], act_if, Alt, ap, Bool, called_kind, Cause, choices_at, false, false≢true, first_row}
+use Rattle.pct_names.proofs.Names.{Frame, go_if, if◌then◌else◌, is_asynchronous, is_blocked, is_deliverable, is_enabled, is_fork_kind}
+use Rattle.pct_names.proofs.Names.{is_free_mutex, List, NextStatement, not, Others, refl, running_choices, running_rows, SharedState, Stmt}
+use Rattle.pct_names.proofs.Names.{sym, Thread, true, unblocked_acts, ◌||◌, ℕ, ◌∙◌, ◌∷◌, ◌≡◌}
 use Rattle.pct_model.specs.declared.schedule.Alt.TheVariants as alt
 use Rattle.pct_model.specs.declared.statement.Stmt.TheVariants as statement
 use Rattle.pct_model.specs.declared.state.Status.TheVariants as status
@@ -29,28 +27,10 @@ if_enabled : (test : Bool) (acts : List Alt) → is_enabled (if test then acts e
 if_enabled true acts = refl
 if_enabled false acts = refl
 
--- where there is a choice whether a test holds or not
-always : (test : Bool) (choices others : List Alt) → is_enabled choices ≡ true → is_enabled others ≡ true → is_enabled (if test then choices else others) ≡ true
-always true choices others some other = some
-always false choices others some other = other
-
--- there is a choice at pthread_create and at pthread_key_create, at pthread_cond_signal, and between destructors
-new_enabled : (numbers : List ℕ) → is_enabled (new_or_go numbers) ≡ true
-new_enabled [] = refl
-new_enabled (n ∷ numbers) = refl
-
-pick_enabled : (waiters : List Waiter) → is_enabled (pick_or_go waiters) ≡ true
-pick_enabled [] = refl
-pick_enabled (waiter ∷ waiters) = refl
-
-dtor_enabled : (numbers : List ℕ) → is_enabled (dtor_or_go numbers) ≡ true
-dtor_enabled [] = refl
-dtor_enabled (n ∷ numbers) = refl
-
 -- ---- a running thread
 
 -- a statement that is not pthread_mutex_lock does not block
-never_blocked : (s : Stmt) (shared : SharedState) → ((m : ℕ) → s ≡ statement.Lock m → ⊥) → is_blocked s shared ≡ false
+pub never_blocked : (s : Stmt) (shared : SharedState) → ((m : ℕ) → s ≡ statement.Lock m → ⊥) → is_blocked s shared ≡ false
 never_blocked (statement.Lock m) shared other = absurd (other m refl)
 never_blocked s shared other = refl
 
@@ -76,19 +56,6 @@ forbidden_lock true false = refl
 forbidden_lock false fork = refl
 
 module _ (body : List Stmt) (shared : SharedState) (t : Thread) (others : Others) (frame : Frame) where
-  -- a running thread has a choice at each statement but pthread_mutex_lock
-  pub running_enabled : (s : Stmt) → ((m : ℕ) → s ≡ statement.Lock m → ⊥) → is_enabled (running_choices body shared t others frame s) ≡ true
-  unfolding running_choices running_rows
-  running_enabled s other =
-      always (is_forbidden_in_child body shared frame s) _ _ refl
-      (always (is_asynchronous t.state t.mode) _ _ refl
-      (always (is_deliverable t.state t.pending && is_required (called_kind s)) _ _ refl
-      (always (is_deliverable t.state t.pending && is_optional (called_kind s)) _ _ refl
-      (rw (never_blocked s shared other)
-      (always (is_create s) _ _ (new_enabled others.new_ids)
-      (always (is_key_create s) _ _ (new_enabled (new_keys shared.keys))
-      (always (is_signal s) _ _ (pick_enabled (waiters_to_signal others s)) refl)))))))
-
   -- at pthread_mutex_lock it has one if the mutex has no owner, if it may act upon a request at any time, or if the call is a stop of
   -- a child process
   pub lock_enabled : (m : ℕ) → is_enabled (running_choices body shared t others frame (statement.Lock m)) ≡ (is_free_mutex m shared || (is_asynchronous t.state t.mode || (shared.restricted && not (is_fork_kind frame.kind))))
@@ -107,9 +74,3 @@ module _ (body : List Stmt) (shared : SharedState) (t : Thread) (others : Others
   reacquire_enabled next c m why =
       ap (λ (b : Bool). is_free_mutex m shared || b) (sym (if_enabled (is_deliverable t.state t.pending) (unblocked_acts why (others.waiters c))))
       ∙ sym (go_enabled (is_free_mutex m shared) (if is_deliverable t.state t.pending then unblocked_acts why (others.waiters c) else []))
-
-  -- an ending thread
-  pub ending_enabled : (handlers : List (ℕ × ℕ)) → is_enabled (ending_choices body shared t others handlers) ≡ true
-  unfolding ending_choices
-  ending_enabled [] = dtor_enabled (left_keys shared.keys t.specific)
-  ending_enabled (handler ∷ handlers) = refl

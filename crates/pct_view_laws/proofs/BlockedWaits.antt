@@ -1,19 +1,17 @@
 -- A thread that waits cannot go on, and one that has no choice waits.
-use Rattle.pct_names.proofs.Names.{◌&&◌, ◌++◌, ◌<◌, [], All, All-head, Alt, ap, arith, body_at, body_of, Bool, called_kind, choices_at}
-use Rattle.pct_names.proofs.Names.{choices_of, dtor_or_go, ending_choices, false, false_from_ne_true, false≢true, Frame, Func, go_if}
-use Rattle.pct_names.proofs.Names.{has_no_frame, if◌then◌else◌, is_asynchronous, is_blocked, is_create, is_deliverable, is_empty}
-use Rattle.pct_names.proofs.Names.{is_enabled, is_ended_status, is_ended_thread, is_forbidden_in_child, is_free_mutex, is_key_create}
-use Rattle.pct_names.proofs.Names.{is_optional, is_required, is_running_child, is_signal, is_some, left_keys, length, List, made_process}
-use Rattle.pct_names.proofs.Names.{may_return, nat_lt, new_keys, new_or_go, next_in, next_of, NextStatement, None, NoStatement, not, offers}
-use Rattle.pct_names.proofs.Names.{Option, option_and_then, option_map_or, Others, others_of, pick_or_go, Process, refl, running_choices}
-use Rattle.pct_names.proofs.Names.{running_rows, Script, SharedState, slice_get, slice_get-get_or, slice_index, Some, statement_at}
-use Rattle.pct_names.proofs.Names.{StatementIn, Status, Stmt, subst, sym, Thread, true, true_from_ne_false, Waiter, waiters_to_signal}
-use Rattle.pct_names.proofs.Names.{World, ℕ, ◌∙◌, ◌∷◌, ◌≡◌}
+use Rattle.pct_names.proofs.Names.{◌++◌, ◌<◌, [], All, All-head, Alt, ap, arith, body_at, body_of, Bool, choices_at, choices_of, false}
+use Rattle.pct_names.proofs.Names.{false_from_ne_true, false≢true, Frame, Func, go_if, has_no_frame, if◌then◌else◌, is_blocked, is_empty}
+use Rattle.pct_names.proofs.Names.{is_enabled, is_ended_status, is_ended_thread, is_free_mutex, is_running_child, is_some, length, List}
+use Rattle.pct_names.proofs.Names.{made_process, may_return, nat_lt, next_in, next_of, NextStatement, None, NoStatement, not, offers}
+use Rattle.pct_names.proofs.Names.{Option, option_and_then, option_map_or, Others, others_of, Process, refl, Script, SharedState, slice_get}
+use Rattle.pct_names.proofs.Names.{slice_get-get_or, slice_index, Some, statement_at, StatementIn, Status, Stmt, subst, sym, Thread, true}
+use Rattle.pct_names.proofs.Names.{true_from_ne_false, World, ◌∙◌, ◌∷◌, ◌≡◌}
 use Rattle.std.proofs.lemmas.Bool.{true≢false}
 use Rattle.pct_model.specs.declared.schedule.Alt.TheVariants as alt
 use Rattle.pct_model.specs.declared.state.Status.TheVariants as status
 use Rattle.pct_model.specs.declared.statement.Stmt.TheVariants as statement
 use Rattle.pct_transition_cases.proofs.OfferedChoices.{goes_at, may_go_on, offered_of}
+use Rattle.pct_transition_cases.proofs.EnabledChoices.{ending_enabled, running_enabled}
 use Rattle.pct_ending_laws.proofs.KeptStates.{every_state_is_kept}
 use Rattle.pct_thread_invariants.proofs.lift.MadeThreads.{IsLive, live_thread, process_is_made}
 use Rattle.pct_thread_invariants.proofs.lift.ProcessIds.{HavePids, have_pids, ids_of_made}
@@ -38,11 +36,6 @@ none_if_waiting : (choices : List Alt) (w : Option Wait) → is_some (if is_enab
 none_if_waiting [] w waits = refl
 none_if_waiting (choice ∷ choices) w waits = absurd (false≢true waits)
 
--- where there is a choice whether a test holds or not
-always : (test : Bool) (choices others : List Alt) → is_enabled choices ≡ true → is_enabled others ≡ true → is_enabled (if test then choices else others) ≡ true
-always true choices others some other = some
-always false choices others some other = other
-
 -- where there is no choice, there is no `go`
 go_disabled : (go : Bool) (rest : List Alt) → is_enabled (go_if go ++ rest) ≡ false → go ≡ false
 go_disabled true rest none = absurd (true≢false none)
@@ -52,19 +45,6 @@ go_disabled false rest none = refl
 none_offered : (choices : List Alt) (c : Alt) → is_enabled choices ≡ false → offers choices c ≡ false
 none_offered [] c none = refl
 none_offered (choice ∷ choices) c none = absurd (true≢false none)
-
--- there is a choice at pthread_create and at pthread_key_create, at pthread_cond_signal, and between destructors
-new_enabled : (numbers : List ℕ) → is_enabled (new_or_go numbers) ≡ true
-new_enabled [] = refl
-new_enabled (n ∷ numbers) = refl
-
-pick_enabled : (waiters : List Waiter) → is_enabled (pick_or_go waiters) ≡ true
-pick_enabled [] = refl
-pick_enabled (waiter ∷ waiters) = refl
-
-dtor_enabled : (numbers : List ℕ) → is_enabled (dtor_or_go numbers) ≡ true
-dtor_enabled [] = refl
-dtor_enabled (n ∷ numbers) = refl
 
 -- a thread has a next statement
 abbrev has_statement : NextStatement → Bool
@@ -96,25 +76,6 @@ module _ (shared : SharedState) (others : Others) where
   waits_at_blocked frame _ blocked = absurd (false≢true blocked)
 
 module _ (body : List Stmt) (shared : SharedState) (t : Thread) (others : Others) where
-  -- a running thread has a choice at each statement that does not block it
-  running_enabled : (frame : Frame) (s : Stmt) → is_blocked s shared ≡ false → is_enabled (running_choices body shared t others frame s) ≡ true
-  unfolding running_choices running_rows
-  running_enabled frame s free =
-      always (is_forbidden_in_child body shared frame s) _ _ refl
-      (always (is_asynchronous t.state t.mode) _ _ refl
-      (always (is_deliverable t.state t.pending && is_required (called_kind s)) _ _ refl
-      (always (is_deliverable t.state t.pending && is_optional (called_kind s)) _ _ refl
-      (rw free
-      (always (is_create s) _ _ (new_enabled others.new_ids)
-      (always (is_key_create s) _ _ (new_enabled (new_keys shared.keys))
-      (always (is_signal s) _ _ (pick_enabled (waiters_to_signal others s)) refl)))))))
-
-  -- an ending thread has a choice
-  ending_enabled : (handlers : List (ℕ × ℕ)) → is_enabled (ending_choices body shared t others handlers) ≡ true
-  unfolding ending_choices
-  ending_enabled [] = dtor_enabled (left_keys shared.keys t.specific)
-  ending_enabled (handler ∷ handlers) = refl
-
   -- a thread that waits cannot go on
   waiting_blocked : (next : NextStatement) (s : Status) (choices : List Alt) → (offers choices alt.Go ≡ true → goes_at shared others s ≡ true) → is_ended_status s ≡ false → is_some (wait_by shared others choices next s) ≡ true → offers choices alt.Go ≡ false
   unfolding wait_by
@@ -129,14 +90,14 @@ module _ (body : List Stmt) (shared : SharedState) (t : Thread) (others : Others
   disabled_waits NoStatement status.Running has alive none = absurd (false≢true (has refl))
   disabled_waits (StatementIn frame s) status.Running has alive none =
       ap (λ (b : Bool). is_some (if b then None else wait_at shared others (StatementIn frame s))) none
-      ∙ waits_at_blocked shared others frame s (true_from_ne_false (is_blocked s shared) (λ free. true≢false (sym (running_enabled frame s free) ∙ none)))
+      ∙ waits_at_blocked shared others frame s (true_from_ne_false (is_blocked s shared) (λ free. true≢false (sym (running_enabled body shared t others frame s free) ∙ none)))
   disabled_waits next (status.AtPoint index) has alive none = suspended_waits shared others (status.AtPoint index) _ alive none
   disabled_waits next (status.Joining id) has alive none = suspended_waits shared others (status.Joining id) _ alive none
   disabled_waits next (status.InSem s) has alive none = suspended_waits shared others (status.InSem s) _ alive none
   disabled_waits next (status.InWaitPid pid) has alive none = suspended_waits shared others (status.InWaitPid pid) _ alive none
   disabled_waits next (status.Waiting c m) has alive none = waits_unless_goes shared others (status.Waiting c m) alive
   disabled_waits next (status.Reacquire c m why) has alive none = suspended_waits shared others (status.Reacquire c m why) _ alive none
-  disabled_waits next status.Ending has alive none = absurd (true≢false (sym (ending_enabled t.handlers) ∙ none))
+  disabled_waits next status.Ending has alive none = absurd (true≢false (sym (ending_enabled body shared t others t.handlers) ∙ none))
   disabled_waits next (status.Ended v) has alive none = absurd (true≢false alive)
   disabled_waits next _ has alive none = absurd (true≢false none)
 

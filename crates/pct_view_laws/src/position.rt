@@ -3,14 +3,14 @@
 use pct_model::Status;
 
 /// The statement that a frame executes next: the index of its function, and the program counter.
-#[derive(Clone, Copy, Debug)]
+#[derive(Clone, Copy)]
 pub struct Position {
     pub func: u32,
     pub pc: u32,
 }
 
 /// Where a step of a thread begins.
-#[derive(Clone, Copy, Debug)]
+#[derive(Clone, Copy)]
 pub struct StepStart {
     /// The status of the thread.
     pub status: Status,

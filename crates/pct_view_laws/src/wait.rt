@@ -1,7 +1,7 @@
 //! What a thread waits for.
 
 /// What a thread waits for: the event that has to occur before it has the choice `go`.
-#[derive(Clone, Copy, Debug)]
+#[derive(Clone, Copy)]
 pub enum Wait {
     /// The unlock of a mutex: its index, and the id of the thread that owns it.
     Mutex { mutex: u32, owner: u32 },

@@ -39,17 +39,10 @@ fn push_other_events(
     ensures { Appends text.old text.new (flat_map (λ e. codes ", " ++ phrase_text (event_words script.now e.what)) events.now) result }
 {
     for event in events {
-        push_next_event(text, script, event.what)?;
+        text.push(b", ")?;
+        push_event(text, script, event.what)?;
     }
     Ok(())
-}
-
-// Appends an event after a comma.
-fn push_next_event(text: &mut TextBuffer, script: &Script, what: What) -> Result<(), NoMemory>
-    ensures { Appends text.old text.new (codes ", " ++ phrase_text (event_words script.now what)) result }
-{
-    text.push(b", ")?;
-    push_event(text, script, what)
 }
 
 // Appends an event.

@@ -48,21 +48,10 @@ fn push_older_handlers(
 {
     let mut left = handlers;
     while let Some(handler) = left.pop() {
-        push_next_handler(text, script, handler)?;
+        text.push(b", ")?;
+        push_handler(text, script, handler)?;
     }
     Ok(())
-}
-
-// Appends a handler after a comma.
-fn push_next_handler(
-    text: &mut TextBuffer,
-    script: &Script,
-    handler: (u32, u32),
-) -> Result<(), NoMemory>
-    ensures { Appends text.old text.new (codes ", " ++ phrase_text (handler_phrase script.now handler)) result }
-{
-    text.push(b", ")?;
-    push_handler(text, script, handler)
 }
 
 // Appends the function of a handler, and its argument.

@@ -1,16 +1,12 @@
 //! The position of a thread, and the statement there.
 
-ghost use Rattle.std.specs.Prelude.{[], ◌∷◌, slice_get};
-ghost use Rattle.std.specs.Option.{option_map_or};
-ghost use Rattle.pct_model.specs.Canon.{statement_words};
-ghost use Rattle.pct_model.specs.Spells.{contents_of};
 ghost use Rattle.pct_view_texts.specs.Fields.{field_text};
 ghost use Rattle.pct_view_texts.specs.Positions.{position_phrases, position_text, statement_phrases};
 ghost use Rattle.pct_view_texts.specs.TextBuffers.{Appends};
 
 use crate::{Source, TextBuffer};
-use pct_io::NoMemory;
-use pct_model::{Func, Script};
+use pct_io::{Failed, NoMemory};
+use pct_model::Script;
 use pct_printer::write_statement_words;
 use pct_report::names::func;
 use pct_views::Position;
@@ -51,28 +47,14 @@ pub(crate) fn push_statement(
     let Some(position) = position else {
         return text.push(b"-");
     };
-    match script.funcs.as_slice().get(position.func as usize) {
-        None => text.push(b"-"),
-        Some(func) => push_statement_of(text, script, func, position.pc),
-    }
-}
-
-// Appends the statement of a function at this program counter, or `-` if there is none.
-#[tactic(auto, unfolding(crate::specs::Fields::field_text))]
-fn push_statement_of(
-    text: &mut TextBuffer,
-    script: &Script,
-    func: &Func,
-    pc: u32,
-) -> Result<(), NoMemory>
-    ensures { Appends text.old text.new (field_text (option_map_or (λ s. statement_words (contents_of script.now) func.now.locals s ∷ []) (slice_get func.now.body pc) [])) result }
-{
-    match func.body.as_slice().get(pc as usize) {
-        None => text.push(b"-"),
-        Some(statement) => {
-            write_statement_words(text, script, func.locals.as_slice(), *statement).map_err(
-                |_| NoMemory,
-            )
-        }
+    let Some(func) = script.funcs.as_slice().get(position.func as usize) else {
+        return text.push(b"-");
+    };
+    let Some(statement) = func.body.as_slice().get(position.pc as usize) else {
+        return text.push(b"-");
+    };
+    match write_statement_words(text, script, func.locals.as_slice(), *statement) {
+        Ok(()) => Ok(()),
+        Err(Failed) => Err(NoMemory),
     }
 }

@@ -64,7 +64,7 @@ pub(crate) fn push_thread_values(
     requires { thread.now.slot < length thread.now.keys.now.rows }
     ensures { (p : ListedProcess) (t : Thread) → p.pid ≡ pid → ShowsState p.shared.keys t thread.now → Appends text.old text.new (fields_text (values_fields source.entry.lines.now source.entry.script.now p t)) result }
 {
-    text.push_thread_id(pid, thread.tid)?;
+    text.push_dotted(pid, thread.tid)?;
     text.push(b"\t")?;
     push_position(text, source, thread.position)?;
     push_frames(alloc, text, source.script, thread.frames)?;

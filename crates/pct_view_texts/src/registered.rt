@@ -49,29 +49,13 @@ fn push_progress(
 ) -> Result<(), NoMemory>
     ensures { Appends phrases.old phrases.new (after_commas (exit_phrases exit_value) ++ after_commas (restricted_phrases restricted)) result }
 {
-    push_exit_value(phrases, exit_value)?;
-    push_restricted(phrases, restricted)
-}
-
-// Appends the value with which exit began after a comma, if it has begun.
-fn push_exit_value(phrases: &mut TextBuffer, exit_value: Option<u32>) -> Result<(), NoMemory>
-    ensures { Appends phrases.old phrases.new (after_commas (exit_phrases exit_value)) result }
-{
-    match exit_value {
-        None => Ok(()),
-        Some(value) => push_phrase(phrases, &[Field::Text(b"exiting"), Field::Number(value)]),
+    if let Some(value) = exit_value {
+        push_phrase(phrases, &[Field::Text(b"exiting"), Field::Number(value)])?;
     }
-}
-
-// Appends after a comma that a process is restricted, if it is.
-fn push_restricted(phrases: &mut TextBuffer, restricted: bool) -> Result<(), NoMemory>
-    ensures { Appends phrases.old phrases.new (after_commas (restricted_phrases restricted)) result }
-{
     if restricted {
-        phrases.push(b", restricted")
-    } else {
-        Ok(())
+        phrases.push(b", restricted")?;
     }
+    Ok(())
 }
 
 // Appends each exit function after a comma, the newest first.

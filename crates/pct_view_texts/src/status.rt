@@ -45,7 +45,6 @@ pub(crate) fn push_status(
 }
 
 // Appends the call in which a thread is at the cancellation point with this index.
-#[tactic(auto, unfolding(pct_model::specs::LineKinds::syntax_of))]
 fn push_point(text: &mut TextBuffer, index: u32) -> Result<(), NoMemory>
     ensures { Appends text.old text.new (phrase_text (in_call (line_kind.Point index) [])) result }
 {
@@ -89,13 +88,6 @@ fn push_forking(text: &mut TextBuffer, phase: Phase) -> Result<(), NoMemory>
 {
     text.push_words(&[Field::Text(b"in"), keyword_of(LineKind::Fork)])?;
     text.push(b", ")?;
-    push_phase(text, phase)
-}
-
-// Appends the phase of a fork.
-fn push_phase(text: &mut TextBuffer, phase: Phase) -> Result<(), NoMemory>
-    ensures { Appends text.old text.new (phrase_text (phase_words phase)) result }
-{
     match phase {
         Phase::Prepare => text.push(Keyword::Prepare.text()),
         Phase::Parent => text.push(Keyword::Parent.text()),

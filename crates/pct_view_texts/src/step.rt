@@ -1,7 +1,6 @@
 //! The line of a step.
 
-ghost use Rattle.std.specs.Prelude.{◌≤◌, [], ◌∷◌, ◌++◌, length, map, decimal};
-ghost use Rattle.pct_io.specs.Prepends.{Prepends};
+ghost use Rattle.std.specs.Prelude.{[], ◌∷◌, ◌++◌, map, decimal};
 ghost use Rattle.std.specs.List.{join_with_byte};
 ghost use Rattle.std.specs.Option.{option_map_or};
 ghost use Rattle.pct_model.specs.EventTexts.{event_words};
@@ -16,7 +15,7 @@ use crate::events::push_events;
 use crate::position::push_statement;
 use crate::status::push_start;
 use crate::{Source, TextBuffer};
-use pct_io::{NoMemory, prepend, prepend_number};
+use pct_io::NoMemory;
 use pct_model::{Alt, Entry, Event, Script};
 use pct_views::StepStart;
 
@@ -38,10 +37,8 @@ pub fn push_step(text: &mut TextBuffer, source: Source, step: &Step) -> Result<(
     push_outcome(text, source.script, step.entry.alt, step.events)
 }
 
-// The size in bytes of the buffer in which a number and a thread are gathered: three numbers of at most 20 digits, and three bytes.
-const CAPACITY: usize = 64;
-
 // Appends the number of a step and its thread, each before a tab.
+#[tactic(auto, unfolding(pct_model::specs::Report::thread_text))]
 fn push_number_and_thread(
     text: &mut TextBuffer,
     number: usize,
@@ -49,41 +46,9 @@ fn push_number_and_thread(
 ) -> Result<(), NoMemory>
     ensures { Appends text.old text.new (decimal number ++ 9 ∷ thread_text entry.now.pid entry.now.tid ++ 9 ∷ []) result }
 {
-    let mut buffer = [0; CAPACITY];
-    match prepend_number_and_thread(number, entry, &mut buffer, CAPACITY) {
-        Some(start) => text.push(&buffer[start..]),
-        None => push_parts(text, number, entry),
-    }
-}
-
-// Writes the number of a step and its thread, each before a tab, as `prepend` writes a text.
-#[inline(always)]
-#[tactic(auto, unfolding(pct_model::specs::Report::thread_text))]
-fn prepend_number_and_thread(
-    number: usize,
-    entry: &Entry,
-    buffer: &mut [u8],
-    end: usize,
-) -> Option<usize>
-    requires { end ≤ length buffer.old }
-    ensures { Prepends buffer.old buffer.new end (decimal number ++ 9 ∷ thread_text entry.now.pid entry.now.tid ++ 9 ∷ []) result }
-{
-    let last_tab = prepend(b"\t", buffer, end)?;
-    let tid = prepend_number(entry.tid as u64, buffer, last_tab)?;
-    let dot = prepend(b".", buffer, tid)?;
-    let pid = prepend_number(entry.pid as u64, buffer, dot)?;
-    let tab = prepend(b"\t", buffer, pid)?;
-    prepend_number(number as u64, buffer, tab)
-}
-
-// Appends the same part by part.
-#[cold]
-fn push_parts(text: &mut TextBuffer, number: usize, entry: &Entry) -> Result<(), NoMemory>
-    ensures { Appends text.old text.new (decimal number ++ 9 ∷ thread_text entry.now.pid entry.now.tid ++ 9 ∷ []) result }
-{
     text.push_count(number)?;
     text.push(b"\t")?;
-    text.push_thread_id(entry.pid, entry.tid)?;
+    text.push_dotted(entry.pid, entry.tid)?;
     text.push(b"\t")
 }
 
@@ -115,16 +80,9 @@ fn push_outcome(
 ) -> Result<(), NoMemory>
     ensures { Appends text.old text.new (9 ∷ join_with_byte 32 (alt_words choice) ++ 9 ∷ field_text (map (event_words script.now) (map (λ e. e.what) events.now)) ++ 10 ∷ []) result }
 {
-    push_after_tab(text, choice)?;
+    text.push(b"\t")?;
+    push_choice(text, choice)?;
     text.push(b"\t")?;
     push_events(text, script, events)?;
     text.push(b"\n")
-}
-
-// Appends a choice after a tab.
-fn push_after_tab(text: &mut TextBuffer, choice: Alt) -> Result<(), NoMemory>
-    ensures { Appends text.old text.new (9 ∷ join_with_byte 32 (alt_words choice)) result }
-{
-    text.push(b"\t")?;
-    push_choice(text, choice)
 }

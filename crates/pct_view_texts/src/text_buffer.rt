@@ -15,7 +15,6 @@ impl TextBuffer {
     ghost use Rattle.std.specs.Prelude.{◌≡◌, [], ◌∷◌, ◌++◌, map, decimal};
     ghost use Rattle.std.specs.List.{flat_map, join_with_byte};
     ghost use Rattle.pct_io.specs.Fields.{field_text};
-    ghost use Rattle.pct_model.specs.Report.{thread_text};
     ghost use Rattle.pct_view_texts.specs.TextBuffers.{text_in, Appends};
 
     /// The empty text.
@@ -73,14 +72,6 @@ impl TextBuffer {
         self.push_number(second)
     }
 
-    /// Appends the ids of a process and of a thread, separated by a dot.
-    #[tactic(auto, unfolding(pct_model::specs::Report::thread_text))]
-    pub fn push_thread_id(&mut self, pid: u32, tid: u32) -> Result<(), NoMemory>
-        ensures { Appends self.old self.new (thread_text pid tid) result }
-    {
-        self.push_dotted(pid, tid)
-    }
-
     /// Appends a field.
     pub fn push_field(&mut self, field: &Field) -> Result<(), NoMemory>
         ensures { Appends self.old self.new (field_text field.now) result }
@@ -111,17 +102,10 @@ impl TextBuffer {
         ensures { Appends self.old self.new (flat_map (λ word. 32 ∷ field_text word) words.now) result }
     {
         for word in words {
-            self.push_spaced_field(word)?;
+            self.push(b" ")?;
+            self.push_field(word)?;
         }
         Ok(())
-    }
-
-    // Appends a field after a space.
-    fn push_spaced_field(&mut self, word: &Field) -> Result<(), NoMemory>
-        ensures { Appends self.old self.new (32 ∷ field_text word.now) result }
-    {
-        self.push(b" ")?;
-        self.push_field(word)
     }
 
     /// Appends a line: the fields, separated by one space, then LF (byte 10).

@@ -32,10 +32,11 @@ pub fn push_thread(
 }
 
 // Appends the id of a thread, its position and the statement there, each before a tab.
+#[tactic(auto, unfolding(pct_model::specs::Report::thread_text))]
 fn push_place(text: &mut TextBuffer, source: Source, thread: &ThreadView) -> Result<(), NoMemory>
     ensures { Appends text.old text.new (thread_text thread.now.pid thread.now.tid ++ 9 ∷ field_text (position_phrases source.entry.lines.now source.entry.script.now thread.now.start.position) ++ 9 ∷ field_text (statement_phrases source.entry.script.now thread.now.start.position)) result }
 {
-    text.push_thread_id(thread.pid, thread.tid)?;
+    text.push_dotted(thread.pid, thread.tid)?;
     text.push(b"\t")?;
     push_position(text, source, thread.start.position)?;
     text.push(b"\t")?;

@@ -5,7 +5,7 @@ ghost use Rattle.pct_model.specs.Report.{verdict_line};
 ghost use Rattle.pct_view_texts.specs.TextBuffers.{Appends};
 
 use crate::TextBuffer;
-use pct_io::NoMemory;
+use pct_io::{Failed, NoMemory};
 use pct_model::Verdict;
 use pct_report::write_verdict_line;
 
@@ -13,5 +13,8 @@ use pct_report::write_verdict_line;
 pub fn push_verdict(text: &mut TextBuffer, verdict: Verdict) -> Result<(), NoMemory>
     ensures { Appends text.old text.new (line_text (verdict_line verdict)) result }
 {
-    write_verdict_line(text, verdict).map_err(|_| NoMemory)
+    match write_verdict_line(text, verdict) {
+        Ok(()) => Ok(()),
+        Err(Failed) => Err(NoMemory),
+    }
 }

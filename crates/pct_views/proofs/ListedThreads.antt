@@ -1,7 +1,6 @@
 -- The threads of a process that is shown, as they are listed.
-use Rattle.pct_names.proofs.Names.{[], All, Alt, ap, arith, Bool, cases_lt, cond, false, false≢true, Family, filter, get_or_past, inl, inr}
-use Rattle.pct_names.proofs.Names.{is_some, length, List, map, None, none-some, Option, refl, same_Some, Script, Some, subst, sym, Thread}
-use Rattle.pct_names.proofs.Names.{true, ℕ, ◌∙◌, ◌∷◌, ◌≡◌, ◌≤◌}
+use Rattle.pct_names.proofs.Names.{[], All, Alt, ap, arith, Bool, cases_lt, cond, false, Family, filter, get_or_past, inl, inr, is_some}
+use Rattle.pct_names.proofs.Names.{length, List, map, none-some, same_Some, Script, Some, subst, sym, Thread, true, ℕ, ◌∙◌, ◌∷◌, ◌≡◌, ◌≤◌}
 use Rattle.pct_engine_laws.specs.Seen.{SeenSlot, SeenProcess}
 use Rattle.pct_engine_laws.specs.SeenSteps.{choices_in}
 use Rattle.pct_process.specs.FamilyViews.{other_processes}
@@ -31,11 +30,6 @@ one_of f (u ∷ []) t l few first is = by (is_unended u) is where
   by true one = ap f (sym (same_Some u t first)) ∙ cc
   by false none = cc
 one_of f (u ∷ next ∷ rest) t l few first is = absurd (omega (arith, few))
-
--- the thread on a slot that has one
-pub thread_of : (o : Option Thread) → is_some o ≡ true → (t : Thread) × (o ≡ Some t)
-thread_of None some = absurd (false≢true some)
-thread_of (Some t) some = (t, refl)
 
 -- the choices of a thread of a process with this data
 abbrev choices_by : Script → ℕ → Family → ProcessData → Thread → List Alt

@@ -1,50 +1,30 @@
-use Rattle.pct_names.proofs.Names.{ap, Entry, List, Option, subst, sym, ℕ, ◌∙◌}
+use Rattle.pct_names.proofs.Names.{ap, Entry, List, subst, ◌∙◌}
 use Rattle.pct_script.specs.StatementLines.{statement_lines}
-use Rattle.pct_command.specs.Answer.{status_of_verdict}
-use Rattle.pct_command.specs.Status.{code_of}
 use Rattle.pct_engine.specs.EngineStates.{EngineValue}
 use Rattle.pct_view_texts.specs.TextBuffers.{text_in}
 use Rattle.pct_inspection.specs.declared.words.Inspection.TheVariants as inspection
 use Rattle.pct_inspection.specs.declared.words.View.{View}
-use Rattle.pct_inspection.specs.Answer.{status_by, AsksFor}
-use Rattle.pct_inspection.specs.Inspection.{IsInspected}
+use Rattle.pct_inspection.specs.Answer.{AsksFor}
 use Rattle.pct_inspection.specs.Shown.{ShowsTrace}
 use Rattle.pct_inspection.proofs.Outcomes.{prefix-answer}
-use Rattle.pct_inspection.proofs.Views.{choices-answer, states-answer, steps-answered}
+use Rattle.pct_inspection.proofs.Views.{state-answered, steps-answered}
 use Rattle.pct_inspection.proofs.showing.show_script.Goals as goal
 
 pub returns-in-Choices : goal.returns-in-Choices
 returns-in-Choices c = λ words input asks has of_text.
-    let runs = c.choices.ensures.runs in
+    let runs = c.show_state.ensures.runs in
     let followed = c.in_ok-engine-in-Choices in
-    let shown = c.in_ok-choices-in-Choices in
-    let v = shown.field-0.verdict in
-    rw (c.answer_of.ensures.status, c.answer_of.ensures.text)
-    (subst (λ (illegal : Option ℕ). IsInspected words input (code_of (status_by illegal (status_of_verdict v))) (text_in shown.field-0.text)) (sym shown.ensures.illegal)
-    (choices-answer words input c.args.script c.in-Ok.config c.in-Ok.entries has.has_script (rw has.rest at c.in-Ok.ensures.read) followed.engine followed.illegal runs.0 c.in_ok-lines.lines (text_in shown.field-0.text) v
+    state-answered words input c.args.script c.in-Ok.config c.in-Ok.entries has.has_script (rw has.rest at c.in-Ok.ensures.read) followed.engine followed.illegal runs.0 c.in_ok-lines.lines c.args.view c.show_state.result
     (rw c.as_slice.ensures at followed.ensures) runs.1
-    (subst (λ (view : View). AsksFor words (inspection.Show view)) c.in-Choices.is asks)
     (c.in_ok-lines.ensures ∙ ap statement_lines of_text)
-    (shown.ensures.shown runs.0 runs.1)))
-
-pub returns-in-States : goal.returns-in-States
-returns-in-States c = λ words input asks has of_text.
-    let runs = c.states.ensures.runs in
-    let followed = c.in_ok-engine-in-States in
-    let shown = c.in_ok-states-in-States in
-    let v = shown.field-0.verdict in
-    rw (c.answer_of-in-States.ensures.status, c.answer_of-in-States.ensures.text)
-    (subst (λ (illegal : Option ℕ). IsInspected words input (code_of (status_by illegal (status_of_verdict v))) (text_in shown.field-0.text)) (sym shown.ensures.illegal)
-    (states-answer words input c.args.script c.in-Ok.config c.in-Ok.entries has.has_script (rw has.rest at c.in-Ok.ensures.read) followed.engine followed.illegal runs.0 c.in_ok-lines.lines (text_in shown.field-0.text) v
-    (rw c.as_slice-in-States.ensures at followed.ensures) runs.1
-    (subst (λ (view : View). AsksFor words (inspection.Show view)) c.in-States.is asks)
-    (c.in_ok-lines.ensures ∙ ap statement_lines of_text)
-    (shown.ensures.shown runs.0 runs.1)))
+    c.in-Choices.is
+    asks
+    (c.show_state.ensures.shown runs.0 runs.1)
 
 pub returns-in-Ok : goal.returns-in-Ok
 returns-in-Ok c = λ words input asks has of_text.
     let steps = c.in_ok-steps-in-Steps in
-    let shown = steps.steps.shown in
+    let shown = steps.steps in
     steps-answered words input c.args.script c.in-Ok.config c.in-Ok.entries has.has_script (rw has.rest at c.in-Ok.ensures.read) c.in-Steps.form shown.illegal c.in_ok-lines.lines (text_in shown.text) shown.verdict c.in_form.result
     (subst (λ (view : View). AsksFor words (inspection.Show view)) c.in-Steps.is asks)
     (c.in_ok-lines.ensures ∙ ap statement_lines of_text)

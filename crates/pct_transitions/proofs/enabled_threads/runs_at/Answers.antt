@@ -1,5 +1,6 @@
 use Rattle.pct_names.proofs.Names.{◌&&◌, ap, Bool, is_asynchronous, is_enabled, is_fork_kind, not, running_choices, Stmt, sym, ◌||◌, ◌∙◌}
-use Rattle.pct_transitions.proofs.EnabledThreads.{or_first, or_second, lock_enabled, running_enabled}
+use Rattle.pct_transition_cases.proofs.EnabledChoices.{running_enabled}
+use Rattle.pct_transitions.proofs.EnabledThreads.{lock_enabled, never_blocked, or_first, or_second}
 use Rattle.pct_transitions.proofs.enabled_threads.runs_at.Goals as goal
 
 pub returns-then-is_unowned : goal.returns-then-is_unowned
@@ -25,4 +26,6 @@ returns-else-is_unowned c = λ body t others is.
 
 pub returns-in_default : goal.returns-in_default
 returns-in_default c = λ body t others is.
-    sym (running_enabled body c.args.process.now.shared t others c.args.at.now.frame.now c.args.at.now.statement.now c.in_default.not-Lock)
+    let shared = c.args.process.now.shared in
+    let s = c.args.at.now.statement.now in
+    sym (running_enabled body shared t others c.args.at.now.frame.now s (never_blocked s shared c.in_default.not-Lock))

@@ -3,8 +3,8 @@ use Rattle.pct_names.proofs.Names.{nat_lt, next_of, not, Script, Status, sym, Th
 use Rattle.pct_engine_laws.specs.SeenSteps.{others_in, is_ready_in}
 use Rattle.pct_process.specs.FamilyViews.{other_processes}
 use Rattle.pct_process.specs.ProcessViews.{ProcessData}
+use Rattle.pct_transition_cases.proofs.EnabledChoices.{ending_enabled}
 use Rattle.pct_transitions.specs.ProcessSteps.{with_data}
-use Rattle.pct_transitions.proofs.EnabledThreads.{ending_enabled}
 use Rattle.pct_transitions.proofs.process_steps.has_choice.Goals as goal
 
 -- whether the thread has a choice, where this is its status
