@@ -22,7 +22,7 @@ use Rattle.pct_inspection.specs.Answer.{AnswersRead, status_of_answer, text_of_a
 -- ---- an input that is not refused
 
 -- a text gives one prefix
-same_given : (s : Schedule) (one other : Config × List Entry) → s ≡ Ok one → s ≡ Ok other → one ≡ other
+pub same_given : (s : Schedule) (one other : Config × List Entry) → s ≡ Ok one → s ≡ Ok other → one ≡ other
 same_given s one other reads also = IfOk-at_ok (λ given. given ≡ other) reads (subst (λ (x : Schedule). IfOk x (λ given. given ≡ other)) (sym also) refl)
 
 -- and then no fault
