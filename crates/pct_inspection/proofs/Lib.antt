@@ -3,3 +3,4 @@ mod Outcomes
 mod CompleteOutcomes
 mod Views
 mod Selections
+mod OneInspection

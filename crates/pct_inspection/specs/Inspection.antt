@@ -32,6 +32,7 @@ use Rattle.pct_command.specs.declared.status.Status.TheVariants as status
 use Rattle.pct_command.specs.Status.{code_of}
 use Rattle.pct_command.specs.SeedSchedule.{SeedContinuation}
 use Rattle.pct_command.specs.Command.{Outside, WroteAll}
+use Rattle.pct_inspection.specs.declared.words.Inspection.{Inspection}
 use Rattle.pct_inspection.specs.declared.words.Inspection.TheVariants as inspection
 use Rattle.pct_inspection.specs.declared.words.Form.{Form}
 use Rattle.pct_inspection.specs.declared.words.Form.TheVariants as form
@@ -225,3 +226,17 @@ IsWhole words before after s =
     (input : List ℕ) → before.left ≡ Some input
     → s ≢ status.ReadFault → s ≢ status.WriteFault
     → (s ≡ status.NoMemory) ⊎ (WroteAll (IsInspected words) input before.written after.written (code_of s) × (is_inspection words ≡ true → IsValidPrefix input → IsCodeOfRun words (code_of s)))
+
+-- ---- uniqueness
+
+-- the words ask for a drawing
+abbrev pub asks_to_draw : Option Inspection → Bool
+asks_to_draw (Some (inspection.Show (view.Steps shown))) = is_drawn shown
+asks_to_draw _ = false
+
+-- words and an input have at most one exit code, and at most one text, unless the words ask for a drawing
+abbrev pub InspectionsAreOne : Type 0
+InspectionsAreOne =
+    (words : List (List ℕ)) (input : List ℕ) (code other_code : ℕ) (text other_text : List ℕ)
+    → IsInspected words input code text → IsInspected words input other_code other_text
+    → (code ≡ other_code) × (asks_to_draw (inspection_asked words) ≡ false → text ≡ other_text)

@@ -7,9 +7,11 @@ mod answer_writer;
 mod answering;
 mod continuing;
 mod inspecting;
+mod law;
 mod selecting;
 mod showing;
 mod words;
 
 pub use inspecting::inspect;
+pub use law::inspections_are_one;
 pub use words::{Form, Inspection, View, read_inspection};

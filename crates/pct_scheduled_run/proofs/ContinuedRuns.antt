@@ -19,6 +19,11 @@ within_budget engine after worker a b e choice =
     let within = (run_parts engine.script engine.config (engine.history ++ e ∷ []) more.0 more.1).within in
     omega (arith, within, length-append engine.history (e ∷ []))
 
+pub get_front : {A : Type 0} (xs ys : List A) (k : ℕ) → k < length xs → slice_get (xs ++ ys) k ≡ slice_get xs k
+get_front [] ys k within = absurd (omega (arith, within))
+get_front (x ∷ xs) ys zero within = refl
+get_front (x ∷ xs) ys (suc k) within = get_front xs ys k (omega (arith, within))
+
 pub get_seam : {A : Type 0} (xs ys : List A) (x : A) → slice_get (xs ++ x ∷ ys) (length xs) ≡ Some x
 get_seam [] ys x = refl
 get_seam (z ∷ xs) ys x = get_seam xs ys x

@@ -8,7 +8,7 @@ use mathlib.Core.Option as maybe
 use Rattle.atomic_table.specs.Seated.{TableId}
 use Rattle.atomic_table.specs.Table.{Me, State, Final, Seen}
 use Rattle.pct_engine.specs.EngineStates.{EngineValue}
-use Rattle.pct_scheduled_run.proofs.ContinuedRuns.{get_seam}
+use Rattle.pct_scheduled_run.proofs.ContinuedRuns.{get_seam, get_front}
 use Rattle.pct_shared.specs.declared.view.Known.{Known}
 use Rattle.pct_shared.specs.declared.view.Opening.{Opening}
 use Rattle.pct_shared.specs.declared.view.View.{View}
@@ -18,7 +18,6 @@ use Rattle.pct_shared.specs.Passes.{SharedValue}
 use Rattle.pct_shared.specs.TurnRule.{Agrees, HasSeat, IsHome, IsKnown, IsOld, KeepsTurn, SeatView, Slot}
 use Rattle.pct_shared.specs.TurnSteps.{IsSeatOf}
 use Rattle.pct_shared.specs.Views.{engine_after, opened, own}
-use Rattle.pct_shared.proofs.LongerChoices.{get_front}
 use Rattle.pct_shared.proofs.NewWorkers.{at_front_or_end}
 use Rattle.pct_shared.proofs.OwnEntries.{prefix_trans}
 use Rattle.pct_shared.proofs.SeatsMade.{none_left, none_past}

@@ -3,14 +3,10 @@ use Rattle.pct_names.proofs.Names.{◌+◌, ◌++◌, ◌<◌, [], All, ap, arit
 use Rattle.pct_names.proofs.Names.{run, Script, slice_get, slice_get-get_or, Some, subst, suc, sym, take-append-le, zero, ℕ, ◌∙◌, ◌∷◌, ◌≡◌}
 use Rattle.std.proofs.Common.{length-append}
 use Rattle.pct_scheduled_run.specs.ScheduledRuns.{AreChosenBy, IsChosenAt}
+use Rattle.pct_scheduled_run.proofs.ContinuedRuns.{get_front}
 use Rattle.pct_scheduled_run.proofs.WholeRuns.{first_run}
 use Rattle.pct_shared.specs.Views.{IsPrefix}
 use Rattle.pct_shared.proofs.ChosenWorkers.{chosen-worker}
-
-pub get_front : {A : Type 0} (xs ys : List A) (k : ℕ) → k < length xs → slice_get (xs ++ ys) k ≡ slice_get xs k
-get_front [] ys k within = absurd (omega (arith, within))
-get_front (x ∷ xs) ys zero within = refl
-get_front (x ∷ xs) ys (suc k) within = get_front xs ys k (omega (arith, within))
 
 -- an entry that was chosen is so in each history that begins with its own
 pub chosen_with_more : (draws : ℕ → ℕ × ℕ) (worker : ℕ) (script : Script) (config : Config) (entries rest : List Entry) (place turn : ℕ) → place < length entries

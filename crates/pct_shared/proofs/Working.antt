@@ -8,7 +8,7 @@ use Rattle.rand_pcg.specs.Lcg.{Lcg}
 use Rattle.pct_engine.specs.EngineStates.{IsRunOf, IsRunWith}
 use Rattle.pct_scheduled_run.specs.ScheduledRuns.{IsChosenAt}
 use Rattle.pct_scheduled_run.specs.Streams.{after_words, draws}
-use Rattle.pct_scheduled_run.proofs.ContinuedRuns.{chosen_next, get_seam}
+use Rattle.pct_scheduled_run.proofs.ContinuedRuns.{chosen_next, get_seam, get_front}
 use Rattle.pct_scheduled_run.proofs.Words.{draws_after, no_words, words_next}
 use Rattle.pct_shared.specs.declared.shared.Turn.{Turn}
 use Rattle.pct_shared.specs.declared.shared.Turn.TheVariants as turn
@@ -18,7 +18,7 @@ use Rattle.pct_shared.specs.declared.workers.Worker.{Worker}
 use Rattle.pct_shared.specs.Hosts.{IsMadeAt, RiseWithin, TookTurns, Worked, counted_from}
 use Rattle.pct_shared.specs.Passes.{FoundClosed, IsTurn, MadeStep, TookOneTurn}
 use Rattle.pct_shared.specs.Views.{IsPrefix, engine_after, opened}
-use Rattle.pct_shared.proofs.LongerChoices.{chosen_with_more, get_front}
+use Rattle.pct_shared.proofs.LongerChoices.{chosen_with_more}
 use Rattle.pct_shared.proofs.OwnEntries.{prefix_refl, prefix_of_same, prefix_trans}
 
 -- ---- numbers that rise, or are counted

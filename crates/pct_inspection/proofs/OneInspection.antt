@@ -1,0 +1,239 @@
+-- Words and an input have one outcome of an inspection at the most.
+use Rattle.pct_names.proofs.Names.{◌++◌, ap, Bool, code_of_verdict, Config, Entry, Err, false, Fault, first_fault, first_illegal, le-ltb, length, line_text, List}
+use Rattle.pct_names.proofs.Names.{nat_lt, None, none-some, Ok, Option, option_map, refl, refused_input, refused_schedule, refused_script, refused_words, report}
+use Rattle.pct_names.proofs.Names.{Run, run, same_Some, Schedule, Script, Some, some_pair_parts, Spells, subst, sym, true, verdict_of, ℕ, ◌∙◌, ◌≡◌, ◌≤◌}
+use Rattle.std.proofs.lemmas.Bool.{lt-ltb, true≢false}
+use Rattle.pct_grammar.proofs.Scripts.{spelled_is_faultless, spells_one_script}
+use Rattle.pct_schedule.specs.Prefix.{prefix_of}
+use Rattle.pct_script.specs.StatementLines.{statement_lines}
+use Rattle.pct_scheduled_run.specs.Streams.{draws, stream_of}
+use Rattle.pct_scheduled_run.proofs.OneSchedule.{continuation_is_one}
+use Rattle.pct_history.specs.Replays.{followed}
+use Rattle.pct_view_texts.specs.Choices.{choices_text}
+use Rattle.pct_view_texts.specs.States.{states_text}
+use Rattle.pct_view_texts.specs.Trace.{trace_text}
+use Rattle.pct_command.specs.SeedSchedule.{SeedContinuation}
+use Rattle.pct_command.proofs.CompleteOutcomes.{same_given}
+use Rattle.pct_inspection.specs.declared.words.Form.{Form}
+use Rattle.pct_inspection.specs.declared.words.Form.TheVariants as form
+use Rattle.pct_inspection.specs.declared.words.Inspection.{Inspection}
+use Rattle.pct_inspection.specs.declared.words.Inspection.TheVariants as inspection
+use Rattle.pct_inspection.specs.declared.words.View.TheVariants as view
+use Rattle.pct_inspection.specs.Words.{inspection_asked, is_inspection}
+use Rattle.pct_inspection.specs.Inspection.{script_in, prefix_in, notice, code_by, asks_to_draw, Continues, FollowsPrefix, InspectionsAreOne, IsInspected, code_after, entries_in, is_drawn}
+use Rattle.pct_inspection.specs.Inspection as outcome
+
+-- ---- the code and the text, by the order of the checks
+
+-- before the script is known
+abbrev pub by_checks : Bool → Bool → Option Fault → Option (ℕ × List ℕ)
+by_checks false too_long fault = Some (5, line_text refused_words)
+by_checks true true fault = Some (8, line_text refused_input)
+by_checks true false fault = option_map (λ f. (6, line_text (refused_script f.0 f.1))) fault
+
+abbrev pub refused_of : List (List ℕ) → List ℕ → Option (ℕ × List ℕ)
+refused_of words input = by_checks (is_inspection words) (nat_lt 16777216 (length input)) (first_fault (script_in input))
+
+-- the code after the run of the entries that are followed
+abbrev pub code_of_run : Script → Config → List Entry → Option ℕ → Option Run → Option ℕ
+code_of_run script config entries illegal after = option_map (λ r. code_by illegal (code_of_verdict (verdict_of script config r.world (length (followed illegal entries))))) after
+
+-- the code of a drawing
+abbrev pub drawn_of : Script → Schedule → Option ℕ
+drawn_of script (Err fault) = None
+drawn_of script (Ok given) = code_of_run script given.0 given.1 (first_illegal script given.0 given.1) (run script given.0 (followed (first_illegal script given.0 given.1) given.1))
+
+-- the text of a view that is no drawing
+abbrev pub by_view : Option Inspection → List ℕ → Script → Config → List Entry → Run → Option (List ℕ)
+by_view (Some (inspection.Show (view.Steps form.Trace))) input script config entries after = Some (trace_text (statement_lines (script_in input)) script config entries after)
+by_view (Some (inspection.Show view.Choices)) input script config entries after = Some (choices_text (statement_lines (script_in input)) script config after.world (length entries))
+by_view (Some (inspection.Show view.States)) input script config entries after = Some (states_text (statement_lines (script_in input)) script config after.world (length entries))
+by_view asked input script config entries after = None
+
+abbrev pub by_run : Option Inspection → List ℕ → Script → Config → List Entry → Option ℕ → Option Run → Option (ℕ × List ℕ)
+by_run asked input script config entries illegal None = None
+by_run asked input script config entries illegal (Some r) =
+    option_map (λ shown. (code_by illegal (code_of_verdict (verdict_of script config r.world (length (followed illegal entries)))), shown ++ notice illegal)) (by_view asked input script config (followed illegal entries) r)
+
+-- of a prefix
+abbrev pub shown_of : Option Inspection → List ℕ → Script → Schedule → Option (ℕ × List ℕ)
+shown_of asked input script (Err fault) = Some (7, line_text (refused_schedule fault.0 fault.1))
+shown_of asked input script (Ok given) = by_run asked input script given.0 given.1 (first_illegal script given.0 given.1) (run script given.0 (followed (first_illegal script given.0 given.1) given.1))
+
+-- a run that goes on from a prefix
+record GoesOn (script : Script) (seed : ℕ) (given : Config × List Entry) (code : ℕ) (text : List ℕ) : Type 0 where
+  schedule : List Entry
+  continued : SeedContinuation script given.0 seed (followed (first_illegal script given.0 given.1) given.1) schedule
+  after : Run
+  is_run : run script given.0 schedule ≡ Some after
+  code_is : code ≡ code_by (first_illegal script given.0 given.1) (code_of_verdict (verdict_of script given.0 after.world (length schedule)))
+  told : List ℕ
+  told_is : report script given.0 schedule ≡ Some told
+  text_is : text ≡ told ++ notice (first_illegal script given.0 given.1)
+
+module _ (words : List (List ℕ)) (input : List ℕ) where
+  -- what is shown of a script
+  abbrev shown : Script → Option (ℕ × List ℕ)
+  shown script = shown_of (inspection_asked words) input script (prefix_of (prefix_in input))
+
+  -- the code and the text are these
+  data Found (code : ℕ) (text : List ℕ) : Type 0 where
+    Refused : refused_of words input ≡ Some (code, text) → Found code text
+    Shown : refused_of words input ≡ None → (script : Script) → Spells (script_in input) script → shown script ≡ Some (code, text) → Found code text
+    Drew : refused_of words input ≡ None → (script : Script) → Spells (script_in input) script → shown script ≡ None → drawn_of script (prefix_of (prefix_in input)) ≡ Some code → asks_to_draw (inspection_asked words) ≡ true → Found code text
+    WentOn : refused_of words input ≡ None → (script : Script) → Spells (script_in input) script → shown script ≡ None → (seed : ℕ) → inspection_asked words ≡ Some (inspection.Continue seed)
+        → (given : Config × List Entry) → prefix_of (prefix_in input) ≡ Ok given → GoesOn script seed given code text → Found code text
+
+  -- ---- every outcome is found
+
+  -- the checks of words and an input
+  checked : (accepted too_long : Bool) (fault : Option Fault) → is_inspection words ≡ accepted → nat_lt 16777216 (length input) ≡ too_long → first_fault (script_in input) ≡ fault → refused_of words input ≡ by_checks accepted too_long fault
+  checked accepted too_long fault words_are fits first =
+      ap (λ (b : Bool). by_checks b (nat_lt 16777216 (length input)) (first_fault (script_in input))) words_are
+      ∙ ap (λ (b : Bool). by_checks accepted b (first_fault (script_in input))) fits
+      ∙ ap (λ (f : Option Fault). by_checks accepted too_long f) first
+
+  these : {code c : ℕ} {text t : List ℕ} → code ≡ c → text ≡ t → ◌≡◌ {A = Option (ℕ × List ℕ)} (Some (c, t)) (Some (code, text))
+  these {c = c} {text = text} {t = t} code_is text_is = sym (ap (λ (x : ℕ). Some (x, text)) code_is ∙ ap (λ (x : List ℕ). Some (c, x)) text_is)
+
+  -- no refusal comes before a run
+  none_refused : (script : Script) (asked : Inspection) → inspection_asked words ≡ Some asked → length input ≤ 16777216 → Spells (script_in input) script → refused_of words input ≡ None
+  none_refused script asked is fits spelled = checked true false None (ap (λ (o : Option Inspection). is_some o) is) (le-ltb 16777216 (length input) fits) (spelled_is_faultless (script_in input) script spelled)
+
+  -- what is shown of words and a prefix that are known
+  shown_as : (script : Script) (asked : Inspection) (config : Config) (entries : List Entry) (illegal : Option ℕ) (after : Option Run) → inspection_asked words ≡ Some asked → prefix_of (prefix_in input) ≡ Ok (config, entries)
+      → first_illegal script config entries ≡ illegal → run script config (followed illegal entries) ≡ after → shown script ≡ by_run (Some asked) input script config entries illegal after
+  shown_as script asked config entries illegal after is read illegal_is is_run =
+      ap (λ (o : Option Inspection). shown_of o input script (prefix_of (prefix_in input))) is
+      ∙ ap (λ (s : Schedule). shown_of (Some asked) input script s) read
+      ∙ ap (λ (n : Option ℕ). by_run (Some asked) input script config entries n (run script config (followed n entries))) illegal_is
+      ∙ ap (λ (r : Option Run). by_run (Some asked) input script config entries illegal r) is_run
+
+  module _ (code : ℕ) (text : List ℕ) where
+    -- a view that is no drawing
+    viewed : (asked : Inspection) → inspection_asked words ≡ Some asked → (prefix : FollowsPrefix input) (t : List ℕ) → code ≡ code_after prefix → by_view (Some asked) input prefix.script prefix.config (entries_in prefix) prefix.after ≡ Some t → text ≡ t ++ notice prefix.illegal → Found code text
+    viewed asked is prefix t code_is view_is text_is =
+        Shown (none_refused prefix.script asked is prefix.fits prefix.spelled) prefix.script prefix.spelled
+        (shown_as prefix.script asked prefix.config prefix.entries prefix.illegal (Some prefix.after) is prefix.read prefix.illegal_is prefix.is_run
+        ∙ ap (option_map (λ (s : List ℕ). (code_after prefix, s ++ notice prefix.illegal))) view_is ∙ these code_is text_is)
+
+    drew : (f : Form) → is_drawn f ≡ true → inspection_asked words ≡ Some (inspection.Show (view.Steps f)) → (prefix : FollowsPrefix input) → code ≡ code_after prefix → Found code text
+    drew form.Trace drawn is prefix code_is = absurd (true≢false (sym drawn))
+    drew form.Lanes drawn is prefix code_is = Drew
+        (none_refused prefix.script (inspection.Show (view.Steps form.Lanes)) is prefix.fits prefix.spelled) prefix.script prefix.spelled
+        (shown_as prefix.script (inspection.Show (view.Steps form.Lanes)) prefix.config prefix.entries prefix.illegal (Some prefix.after) is prefix.read prefix.illegal_is prefix.is_run)
+        (drawn_as prefix ∙ ap (λ (n : ℕ). Some n) (sym code_is))
+        (ap asks_to_draw is)
+    drew form.Picture drawn is prefix code_is = Drew
+        (none_refused prefix.script (inspection.Show (view.Steps form.Picture)) is prefix.fits prefix.spelled) prefix.script prefix.spelled
+        (shown_as prefix.script (inspection.Show (view.Steps form.Picture)) prefix.config prefix.entries prefix.illegal (Some prefix.after) is prefix.read prefix.illegal_is prefix.is_run)
+        (drawn_as prefix ∙ ap (λ (n : ℕ). Some n) (sym code_is))
+        (ap asks_to_draw is)
+
+    -- the code of a drawing is that after the run
+    drawn_as : (prefix : FollowsPrefix input) → drawn_of prefix.script (prefix_of (prefix_in input)) ≡ Some (code_after prefix)
+    drawn_as prefix =
+        ap (drawn_of prefix.script) prefix.read
+        ∙ ap (λ (n : Option ℕ). code_of_run prefix.script prefix.config prefix.entries n (run prefix.script prefix.config (followed n prefix.entries))) prefix.illegal_is
+        ∙ ap (code_of_run prefix.script prefix.config prefix.entries prefix.illegal) prefix.is_run
+
+    -- a run that goes on
+    went_on : Continues words input code text → Found code text
+    went_on c = WentOn (none_refused c.script (inspection.Continue c.seed) c.asked c.fits c.spelled) c.script c.spelled
+        (ap (λ (o : Option Inspection). shown_of o input c.script (prefix_of (prefix_in input))) c.asked
+        ∙ ap (λ (s : Schedule). shown_of (Some (inspection.Continue c.seed)) input c.script s) c.read
+        ∙ none_shown c.script c.config c.entries c.seed (first_illegal c.script c.config c.entries) (run c.script c.config (followed (first_illegal c.script c.config c.entries) c.entries)))
+        c.seed c.asked (c.config, c.entries) c.read
+        (record {
+          schedule = c.schedule;
+          continued = subst (λ (n : Option ℕ). SeedContinuation c.script c.config c.seed (followed n c.entries) c.schedule) (sym c.illegal_is) c.continued;
+          after = c.after;
+          is_run = c.is_run;
+          code_is = c.code_is ∙ ap (λ (n : Option ℕ). code_by n (code_of_verdict (verdict_of c.script c.config c.after.world (length c.schedule)))) (sym c.illegal_is);
+          told = c.report_text;
+          told_is = c.report_is;
+          text_is = c.text_is ∙ ap (λ (n : Option ℕ). c.report_text ++ notice n) (sym c.illegal_is);
+        })
+
+    -- with `continue` no view is shown
+    none_shown : (script : Script) (config : Config) (entries : List Entry) (seed : ℕ) (illegal : Option ℕ) (after : Option Run) → by_run (Some (inspection.Continue seed)) input script config entries illegal after ≡ None
+    none_shown script config entries seed illegal None = refl
+    none_shown script config entries seed illegal (Some r) = refl
+
+    found : IsInspected words input code text → Found code text
+    found (outcome.WordsRefused o) = Refused (checked false (nat_lt 16777216 (length input)) (first_fault (script_in input)) o.refused refl refl ∙ these o.code_is o.text_is)
+    found (outcome.InputRefused o) = Refused (checked true true (first_fault (script_in input)) o.accepted (lt-ltb 16777216 (length input) o.too_long) refl ∙ these o.code_is o.text_is)
+    found (outcome.ScriptRefused o) = Refused (checked true false (Some (o.line, o.why)) o.accepted (le-ltb 16777216 (length input) o.fits) o.first ∙ these o.code_is o.text_is)
+    found (outcome.PrefixRefused o) = Shown
+        (checked true false None o.accepted (le-ltb 16777216 (length input) o.fits) (spelled_is_faultless (script_in input) o.script o.spelled)) o.script o.spelled
+        (ap (λ (s : Schedule). shown_of (inspection_asked words) input o.script s) o.first ∙ these o.code_is o.text_is)
+    found (outcome.Continued o) = went_on o
+    found (outcome.Traced o) = viewed (inspection.Show (view.Steps form.Trace)) o.asked o.prefix _ o.code_is refl o.text_is
+    found (outcome.Listed o) = viewed (inspection.Show view.Choices) o.asked o.prefix _ o.code_is refl o.text_is
+    found (outcome.Valued o) = viewed (inspection.Show view.States) o.asked o.prefix _ o.code_is refl o.text_is
+    found (outcome.Drawn o) = drew o.shown o.drawn o.asked o.prefix o.code_is
+
+-- ---- and only one
+
+-- the seed of words that ask to continue
+abbrev seed_in : Option Inspection → ℕ
+seed_in (Some (inspection.Continue seed)) = seed
+seed_in _ = 0
+
+goes_on_once : (script : Script) (seed : ℕ) (given : Config × List Entry) (code other : ℕ) (text told : List ℕ) → GoesOn script seed given code text → GoesOn script seed given other told → (code ≡ other) × (text ≡ told)
+goes_on_once script seed given code other text told a b =
+    let illegal : Option ℕ = first_illegal script given.0 given.1 in
+    let same : a.schedule ≡ b.schedule = continuation_is_one (draws (stream_of seed 1)) 1 script given.0 (followed illegal given.1) a.schedule b.schedule a.continued b.continued in
+    let end : a.after ≡ b.after = same_Some a.after b.after (sym a.is_run ∙ ap (run script given.0) same ∙ b.is_run) in
+    let report_is : a.told ≡ b.told = same_Some a.told b.told (sym a.told_is ∙ ap (report script given.0) same ∙ b.told_is) in
+    (
+      a.code_is
+          ∙ ap (λ (r : Run). code_by illegal (code_of_verdict (verdict_of script given.0 r.world (length a.schedule)))) end
+          ∙ ap (λ (xs : List Entry). code_by illegal (code_of_verdict (verdict_of script given.0 b.after.world (length xs)))) same
+          ∙ sym b.code_is,
+      a.text_is ∙ ap (λ (t : List ℕ). t ++ notice illegal) report_is ∙ sym b.text_is,
+    )
+
+module _ (words : List (List ℕ)) (input : List ℕ) (code other : ℕ) (text told : List ℕ) where
+  abbrev Same : Type 0
+  Same = (code ≡ other) × (asks_to_draw (inspection_asked words) ≡ false → text ≡ told)
+
+  whole : (code ≡ other) × (text ≡ told) → Same
+  whole same = (same.0, λ not_drawn. same.1)
+
+  -- of one script something is shown, or nothing
+  disagree : {c : ℕ} {t : List ℕ} (one also : Script) → Spells (script_in input) one → Spells (script_in input) also → shown words input one ≡ Some (c, t) → shown words input also ≡ None → ⊥
+  disagree {c = c} {t = t} one also a b some none = none-some (c, t) (sym none ∙ ap (shown words input) (spells_one_script (script_in input) also one b a) ∙ some)
+
+  -- words ask for a drawing or to continue
+  no_drawing : (seed : ℕ) → asks_to_draw (inspection_asked words) ≡ true → inspection_asked words ≡ Some (inspection.Continue seed) → ⊥
+  no_drawing seed drawn is = true≢false (sym drawn ∙ ap asks_to_draw is)
+
+  found_once : Found words input code text → Found words input other told → Same
+  found_once (Refused a) (Refused b) = whole (some_pair_parts code other text told (sym a ∙ b))
+  found_once (Refused a) (Shown none _ _ _) = absurd (none-some (code, text) (sym none ∙ a))
+  found_once (Refused a) (Drew none _ _ _ _ _) = absurd (none-some (code, text) (sym none ∙ a))
+  found_once (Refused a) (WentOn none _ _ _ _ _ _ _ _) = absurd (none-some (code, text) (sym none ∙ a))
+  found_once (Shown none _ _ _) (Refused b) = absurd (none-some (other, told) (sym none ∙ b))
+  found_once (Drew none _ _ _ _ _) (Refused b) = absurd (none-some (other, told) (sym none ∙ b))
+  found_once (WentOn none _ _ _ _ _ _ _ _) (Refused b) = absurd (none-some (other, told) (sym none ∙ b))
+  found_once (Shown _ one spells a) (Shown _ also spelled b) = whole (some_pair_parts code other text told (sym a ∙ ap (shown words input) (spells_one_script (script_in input) one also spells spelled) ∙ b))
+  found_once (Shown _ one spells a) (Drew _ also spelled b _ _) = absurd (disagree one also spells spelled a b)
+  found_once (Shown _ one spells a) (WentOn _ also spelled b _ _ _ _ _) = absurd (disagree one also spells spelled a b)
+  found_once (Drew _ one spells a _ _) (Shown _ also spelled b) = absurd (disagree also one spelled spells b a)
+  found_once (WentOn _ one spells a _ _ _ _ _) (Shown _ also spelled b) = absurd (disagree also one spelled spells b a)
+  found_once (Drew _ one spells _ a drawn) (Drew _ also spelled _ b _) = (
+    same_Some code other (sym a ∙ ap (λ (s : Script). drawn_of s (prefix_of (prefix_in input))) (spells_one_script (script_in input) one also spells spelled) ∙ b),
+    λ not_drawn. absurd (true≢false (sym drawn ∙ not_drawn)),
+  )
+  found_once (Drew _ _ _ _ _ drawn) (WentOn _ _ _ _ seed is _ _ _) = absurd (no_drawing seed drawn is)
+  found_once (WentOn _ _ _ _ seed is _ _ _) (Drew _ _ _ _ _ drawn) = absurd (no_drawing seed drawn is)
+  found_once (WentOn _ one spells _ seed is given read a) (WentOn _ also spelled _ other_seed other_is also_given also_read b) =
+      let script : one ≡ also = spells_one_script (script_in input) one also spells spelled in
+      let seeds : seed ≡ other_seed = ap seed_in (sym is ∙ other_is) in
+      let same : given ≡ also_given = same_given (prefix_of (prefix_in input)) given also_given read also_read in
+      whole (goes_on_once also other_seed also_given code other text told
+      (subst (λ (s : Script). GoesOn s other_seed also_given code text) script (subst (λ (n : ℕ). GoesOn one n also_given code text) seeds (subst (λ (g : Config × List Entry). GoesOn one seed g code text) same a))) b)
+
+pub inspection_is_one : InspectionsAreOne
+inspection_is_one words input code other text told a b = found_once words input code other text told (found words input code text a) (found words input other told b)
