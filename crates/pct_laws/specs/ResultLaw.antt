@@ -9,6 +9,7 @@ use Rattle.pct_model.specs.declared.event.Caller.TheVariants as caller
 use Rattle.pct_model.specs.declared.event.What.{What}
 use Rattle.pct_model.specs.declared.event.What.TheVariants as what
 use Rattle.pct_model.specs.declared.frame.Frame.{Frame}
+use Rattle.pct_model.specs.declared.numbers.TheConstants.{EAGAIN}
 use Rattle.pct_model.specs.declared.schedule.Config.{Config}
 use Rattle.pct_model.specs.declared.schedule.Entry.{Entry}
 use Rattle.pct_model.specs.declared.script.Script.{Script}
@@ -70,9 +71,9 @@ module _ (shared : SharedState) (t : Thread) where
   -- all others store nothing
   stored_at frame _ _ = []
 
--- what fork stores in the parent, by the id of the child, 0 if none was made: 0 and this id, or the error EAGAIN, which is 1 in this host
+-- what fork stores in the parent, by the id of the child, 0 if none was made: 0 and this id, or EAGAIN
 abbrev pub stored_by_fork : ℕ → Dest → Dest → List Store
-stored_by_fork pid result child = if nat_eq pid 0 then (result, 1) ∷ [] else (result, 0) ∷ (child, pid) ∷ []
+stored_by_fork pid result child = if nat_eq pid 0 then (result, EAGAIN) ∷ [] else (result, 0) ∷ (child, pid) ∷ []
 
 -- what a thread stores as it returns from the call in which it is suspended with this status, in a step with these events
 abbrev pub stored_on_return : Status → Stmt → List What → List Store

@@ -15,8 +15,9 @@ use crate::context::Context;
 use crate::current::{At, next_pc};
 use crate::transitions::{acts, goes_on, leaves, no_change};
 use pct_model::{
-    Caller, Dest, ForkAt, ForkHandlers, HandlerCall, MAX_FORK_HANDLERS, OwnAction, Phase,
-    ProcessAction, SharedAction, Status, Stmt, Transition, UpToThree, WAITPID_POINT, What,
+    Caller, Dest, EAGAIN, ECHILD, ENOMEM, ForkAt, ForkHandlers, HandlerCall, MAX_FORK_HANDLERS,
+    OwnAction, Phase, ProcessAction, SharedAction, Status, Stmt, Transition, UpToThree,
+    WAITPID_POINT, What,
 };
 use pct_process::ForkRegistrations;
 
@@ -29,7 +30,7 @@ pub(crate) struct AtForkCall {
     pub handlers: ForkHandlers,
 }
 
-/// pthread_atfork, in a process with these registrations: the result is 0, or ENOMEM, which is 2 in this host, past its limit.
+/// pthread_atfork, in a process with these registrations: the result is 0, or ENOMEM past the limit of this host.
 #[tactic(auto, unfolding(pct_model::specs::ForkCalls::registers_fork))]
 #[inline(never)]
 pub(crate) fn registers_fork(
@@ -49,10 +50,10 @@ pub(crate) fn registers_fork(
     } else {
         let failed = What::Answer {
             call: Caller::AtFork,
-            number: 2,
+            number: ENOMEM,
         };
         *transition = Transition {
-            writes: UpToThree::one((call.answer, 2)),
+            writes: UpToThree::one((call.answer, ENOMEM)),
             ..goes_on(next, UpToThree::one(failed))
         };
     }
@@ -233,7 +234,7 @@ fn forks_by(length: u32, new_pid: Option<u32>) -> Transition
             own: Some(OwnAction::SetStatus(in_fork(after_fork(length, 0)))),
             ..acts(UpToThree::one(What::Answer {
                 call: Caller::Fork,
-                number: 1,
+                number: EAGAIN,
             }))
         },
     }
@@ -252,7 +253,7 @@ fn after_fork(length: u32, answer: u32) -> ForkAt
 }
 
 // fork returns in the process that called it, at a statement of the top frame: the result is 0, and the id of the child is written. If
-// no child was made, the result is EAGAIN, which is 1 in this host, and no id is written.
+// no child was made, the result is EAGAIN, and no id is written.
 #[tactic(auto, using(crate::proofs::Bodies::pc_within), unfolding(pct_model::specs::ForkCalls::returns_in_parent))]
 #[inline(always)]
 fn returns_in_parent(context: &Context, at: &At, pid: u32) -> Transition
@@ -267,7 +268,7 @@ fn returns_in_parent(context: &Context, at: &At, pid: u32) -> Transition
             let next = next_pc(at.frame);
             if pid == 0 {
                 Transition {
-                    writes: UpToThree::one((*answer, 1)),
+                    writes: UpToThree::one((*answer, EAGAIN)),
                     ..goes_on(next, UpToThree::none())
                 }
             } else {
@@ -317,17 +318,17 @@ pub(crate) fn begins_waitpid(context: &Context, next: u32, pid: u32, answer: Des
     }
 }
 
-// There is no such child: the result is ECHILD, which is 3 in this host.
+// There is no such child: the result is ECHILD.
 #[tactic(auto, unfolding(pct_model::specs::ForkCalls::finds_no_child))]
 fn finds_no_child(next: u32, answer: Dest) -> Transition
     ensures { result ≡ finds_no_child next answer }
 {
     let failed = What::Answer {
         call: Caller::WaitPid,
-        number: 3,
+        number: ECHILD,
     };
     Transition {
-        writes: UpToThree::one((answer, 3)),
+        writes: UpToThree::one((answer, ECHILD)),
         ..goes_on(next, UpToThree::one(failed))
     }
 }

@@ -12,8 +12,8 @@ use crate::context::Context;
 use crate::current::{At, next_pc};
 use crate::transitions::{acts, goes_on, no_change};
 use pct_model::{
-    Alt, Caller, Dest, JOIN_POINT, NamedAction, NewThread, OwnAction, Status, Stmt, Transition,
-    UpToThree, What,
+    Alt, Caller, Dest, EAGAIN, JOIN_POINT, NamedAction, NewThread, OwnAction, Status, Stmt,
+    Transition, UpToThree, What,
 };
 
 // ---- pthread_create
@@ -61,17 +61,17 @@ fn creates(call: &CreateCall, next: u32, id: u32) -> Transition
     }
 }
 
-// No slot is free: the result is EAGAIN, which is 1 in this host, and the id is not written.
+// No slot is free: the result is EAGAIN, and the id is not written.
 #[tactic(auto, unfolding(pct_model::specs::ThreadCalls::fails_to_create))]
 fn fails_to_create(next: u32, answer: Dest) -> Transition
     ensures { result ≡ fails_to_create next answer }
 {
     let failed = What::Answer {
         call: Caller::Create,
-        number: 1,
+        number: EAGAIN,
     };
     Transition {
-        writes: UpToThree::one((answer, 1)),
+        writes: UpToThree::one((answer, EAGAIN)),
         ..goes_on(next, UpToThree::one(failed))
     }
 }
