@@ -33,10 +33,6 @@ abbrev pub is_fork : Stmt → Bool
 is_fork (statement.Fork result child) = true
 is_fork _ = false
 
--- the status of a thread in fork
-abbrev pub in_fork : ForkAt → Status
-in_fork at = status.Forking at.phase at.next at.length at.answer
-
 -- ---- pthread_atfork
 
 -- the phase is that before the fork
@@ -92,13 +88,13 @@ registers_fork count next result handlers =
 -- fork is called, in a process with this many registrations. That these are the ones that it uses, and that a fork is at least three
 -- transitions, its call, the fork and its return, are choices of this host
 unfoldable pub begins_fork : ℕ → Transition
-begins_fork count = record (acts []) { own = Some (own_action.SetStatus (in_fork (record { phase = Prepare; next = count; length = count; answer = 0 }))) }
+begins_fork count = record (acts []) { own = Some (own_action.SetStatus (status.Forking (record { phase = Prepare; next = count; length = count; answer = 0 }))) }
 
 -- a child process is made, with this id; without an id there is none, and fork fails with EAGAIN. That the parent handlers are called
 -- then, too, is a choice of this host
 unfoldable pub forks_by : ℕ → Option ℕ → Transition
-forks_by length (Some pid) = record (acts (what.Forked pid ∷ [])) { own = Some (own_action.SetStatus (in_fork (record { phase = Parent; next = 0; length = length; answer = pid }))); process = Some (process_action.Make pid) }
-forks_by length None = record (acts (what.Answer caller.Fork EAGAIN ∷ [])) { own = Some (own_action.SetStatus (in_fork (record { phase = Parent; next = 0; length = length; answer = 0 }))) }
+forks_by length (Some pid) = record (acts (what.Forked pid ∷ [])) { own = Some (own_action.SetStatus (status.Forking (record { phase = Parent; next = 0; length = length; answer = pid }))); process = Some (process_action.Make pid) }
+forks_by length None = record (acts (what.Answer caller.Fork EAGAIN ∷ [])) { own = Some (own_action.SetStatus (status.Forking (record { phase = Parent; next = 0; length = length; answer = 0 }))) }
 
 -- fork returns in the process that called it: the result is 0, and the id of the child is written. If no child was made, the result is
 -- EAGAIN, and no id is written
@@ -123,7 +119,7 @@ goes_on_forking None at new_pid next = goes_on_after_handlers at.phase at new_pi
 
 -- a thread returns from a fork handler, with the values of its fork that it kept
 unfoldable pub leaves_handler : Option ForkAt → Transition
-leaves_handler (Some at) = record (acts []) { own = Some (own_action.Leave (in_fork at)) }
+leaves_handler (Some at) = record (acts []) { own = Some (own_action.Leave (status.Forking at)) }
 leaves_handler None = no_change
 
 -- ---- waitpid

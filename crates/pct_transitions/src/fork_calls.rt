@@ -5,7 +5,7 @@ ghost use Rattle.std.specs.List.{range_with_len};
 ghost use Rattle.pct_model.specs.declared.limits.TheConstants.{MAX_FORK_HANDLERS};
 ghost use Rattle.pct_model.specs.declared.state.ForkAt.{ForkAt as ForkValues};
 ghost use Rattle.pct_model.specs.declared.state.Phase.TheVariants as phases;
-ghost use Rattle.pct_model.specs.ForkCalls.{in_fork, handler_for, handler_at, handlers_among, next_handler, while_called, handler_event, calls_handler, registers_fork, begins_fork, forks_by, goes_on_after_handlers, goes_on_forking, leaves_handler, finds_no_child, begins_waitpid, reaps, waits_at};
+ghost use Rattle.pct_model.specs.ForkCalls.{handler_for, handler_at, handlers_among, next_handler, while_called, handler_event, calls_handler, registers_fork, begins_fork, forks_by, goes_on_after_handlers, goes_on_forking, leaves_handler, finds_no_child, begins_waitpid, reaps, waits_at};
 ghost use Rattle.pct_model.specs.NextStatement.{StatementIn};
 ghost use Rattle.pct_model.specs.OtherThreads.{Others};
 ghost use Rattle.pct_transitions.specs.Contexts.{IsWhole, SeesOthers};
@@ -161,15 +161,8 @@ pub(crate) fn leaves_handler(kept: Option<ForkAt>) -> Transition
 {
     match kept {
         None => no_change(),
-        Some(at) => leaves(in_fork(at)),
+        Some(at) => leaves(Status::Forking(at)),
     }
-}
-
-// The status of a thread in fork, with these values.
-fn in_fork(at: ForkAt) -> Status
-    ensures { result ≡ in_fork at }
-{
-    Status::Forking(at.phase, at.next, at.length, at.answer)
 }
 
 // ---- fork
@@ -188,7 +181,7 @@ pub(crate) fn begins_fork(registered: &ForkRegistrations, transition: &mut Trans
         answer: 0,
     };
     *transition = Transition {
-        own: Some(OwnAction::SetStatus(in_fork(at))),
+        own: Some(OwnAction::SetStatus(Status::Forking(at))),
         ..acts(UpToThree::none())
     };
 }
@@ -226,12 +219,12 @@ fn forks_by(length: u32, new_pid: Option<u32>) -> Transition
 {
     match new_pid {
         Some(pid) => Transition {
-            own: Some(OwnAction::SetStatus(in_fork(after_fork(length, pid)))),
+            own: Some(OwnAction::SetStatus(Status::Forking(after_fork(length, pid)))),
             process: Some(ProcessAction::Make(pid)),
             ..acts(UpToThree::one(What::Forked(pid)))
         },
         None => Transition {
-            own: Some(OwnAction::SetStatus(in_fork(after_fork(length, 0)))),
+            own: Some(OwnAction::SetStatus(Status::Forking(after_fork(length, 0)))),
             ..acts(UpToThree::one(What::Answer {
                 call: Caller::Fork,
                 number: EAGAIN,

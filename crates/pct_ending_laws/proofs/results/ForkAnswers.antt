@@ -22,12 +22,12 @@ use Rattle.pct_thread_invariants.proofs.lift.MovedThreads.{EveryStep, step_of, c
 
 -- a thread that is in fork has no values that are kept for one of its handlers
 abbrev HasNone : Status → Option ForkAt → Type 0
-HasNone (status.Forking phase index length answer) kept = kept ≡ None
+HasNone (status.Forking at) kept = kept ≡ None
 HasNone _ kept = Unit {0}
 
 has_none : (s : Status) (frames : List Frame) (kept : Option ForkAt) → is_some kept ≡ is_in_fork_handler s frames → HasNone s kept
-has_none (status.Forking phase index length answer) frames None is = refl
-has_none (status.Forking phase index length answer) frames (Some at) is = absurd (true≢false is)
+has_none (status.Forking at) frames None is = refl
+has_none (status.Forking at) frames (Some kept) is = absurd (true≢false is)
 has_none _ frames kept is = tt
 
 -- after the action, if there is one, the thread is in no fork
@@ -47,8 +47,8 @@ module _ (passes : ℕ) (body : List Stmt) (shared : SharedState) (t : Thread) (
   case_given : {next : NextStatement} {s : Status} {o : Transition} → TransitionCase passes body shared t others true next s o → (n : ℕ)
       → answer_in o.events ≡ Some n → fork_answer (moved o (with s)) ≡ Some n
   unfolding own_after thread_at
-  case_given (process_forked next index length answer new is) n said = said
-  case_given (process_not_forked next index length answer) n said = said
+  case_given (process_forked next at new prepares is) n said = said
+  case_given (process_not_forked next at prepares) n said = said
   case_given (fork_handler_called next at call is) n said =
       absurd (none-some n (sym (of_each_phase (λ (w : What). answer_in (w ∷ []) ≡ None) call.func refl refl refl at.phase) ∙ said))
   case_given _ n said = absurd (none-some n said)
@@ -62,11 +62,11 @@ module _ (passes : ℕ) (body : List Stmt) (shared : SharedState) (t : Thread) (
       → HasNone s t.kept → answer_in o.events ≡ None → calls_fork next s ≡ false → Stays o s
   unfolding own_after thread_at
   case_stays (fork_begun frame result child unbegun) none quiet other = absurd (true≢false other)
-  case_stays (process_forked next index length answer new is) none quiet other = absurd (none-some new (sym quiet))
-  case_stays (process_not_forked next index length answer) none quiet other = absurd (none-some 0 (sym quiet))
-  case_stays (fork_failed frame result child index length pid) none quiet other =
+  case_stays (process_forked next at new prepares is) none quiet other = absurd (none-some new (sym quiet))
+  case_stays (process_not_forked next at prepares) none quiet other = absurd (none-some 0 (sym quiet))
+  case_stays (fork_failed frame result child at returns) none quiet other =
       record { leaves = true; is = ap (option_map (λ (at : ForkAt). at.answer)) none }
-  case_stays (fork_returned frame result child phase index length pid value) none quiet other =
+  case_stays (fork_returned frame result child at value) none quiet other =
       record { leaves = true; is = ap (option_map (λ (at : ForkAt). at.answer)) none }
   case_stays (fork_handler_left frame s v at returns is kept) none quiet other =
       record { leaves = false; is = sym (ap (option_map (λ (x : ForkAt). x.answer)) kept) }
