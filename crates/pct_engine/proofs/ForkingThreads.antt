@@ -24,7 +24,7 @@ on_slot_has Has slots each k t at =
 
 -- a thread that is in fork is in no fork handler, and has at most MAX_FRAMES frames
 few_frames : (st : Status) (frames : List Frame) → is_forking st ≡ true → length frames ≤ (if is_in_fork_handler st frames then suc MAX_FRAMES else MAX_FRAMES) → length frames ≤ MAX_FRAMES
-few_frames (status.Forking phase index count answer) frames forking few = few
+few_frames (status.Forking at) frames forking few = few
 few_frames _ frames forking few = absurd (false≢true forking)
 
 -- the threads of each process that is kept of a state

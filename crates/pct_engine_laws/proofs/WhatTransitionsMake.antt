@@ -38,7 +38,7 @@ module _ (P Q R : ℕ → Type 0) where
     case_makes : {next : NextStatement} {s : Status} {o : Transition} → TransitionCase passes body shared t others true next s o → MakesWith P Q R o
     case_makes (thread_made frame result id f v detached n among) = record { thread = new n (among refl); key = tt; process = tt }
     case_makes (key_made frame result key destructor k among) = record { thread = tt; key = made k (among refl); process = tt }
-    case_makes (process_forked next index length pid child is) = record { thread = tt; key = tt; process = forked child is }
+    case_makes (process_forked next at child prepares is) = record { thread = tt; key = tt; process = forked child is }
     case_makes _ = record { thread = tt; key = tt; process = tt }
 
     -- the transition of a thread by a choice that is offered: a thread that it creates has one of the ids for a new thread, a key that

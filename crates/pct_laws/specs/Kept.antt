@@ -146,7 +146,7 @@ is_cond_wait_of c m _ = false
 abbrev pub IsSuspendedAt : NextStatement → Status → Type 0
 IsSuspendedAt next (status.InSem s) = is_sem_wait_of s next ≡ true
 IsSuspendedAt next (status.InWaitPid pid) = is_at_waitpid next ≡ true
-IsSuspendedAt next (status.Forking phase index length pid) = is_at_fork next ≡ true
+IsSuspendedAt next (status.Forking at) = is_at_fork next ≡ true
 IsSuspendedAt next (status.Waiting c m) = is_cond_wait_of c m next ≡ true
 IsSuspendedAt next (status.Reacquire c m why) = is_cond_wait_of c m next ≡ true
 IsSuspendedAt next _ = Unit {0}

@@ -9,10 +9,12 @@ use Rattle.pct_model.specs.declared.event.Caller.TheVariants as caller
 use Rattle.pct_model.specs.declared.event.What.{What}
 use Rattle.pct_model.specs.declared.event.What.TheVariants as what
 use Rattle.pct_model.specs.declared.frame.Frame.{Frame}
+use Rattle.pct_model.specs.declared.numbers.TheConstants.{EAGAIN}
 use Rattle.pct_model.specs.declared.schedule.Config.{Config}
 use Rattle.pct_model.specs.declared.schedule.Entry.{Entry}
 use Rattle.pct_model.specs.declared.script.Script.{Script}
 use Rattle.pct_model.specs.declared.state.ForkAt.{ForkAt}
+use Rattle.pct_model.specs.declared.state.Phase.{Phase}
 use Rattle.pct_model.specs.declared.state.Phase.TheVariants as phase
 use Rattle.pct_model.specs.declared.state.Status.{Status}
 use Rattle.pct_model.specs.declared.state.Status.TheVariants as status
@@ -70,9 +72,12 @@ module _ (shared : SharedState) (t : Thread) where
   -- all others store nothing
   stored_at frame _ _ = []
 
--- what fork stores in the parent, by the id of the child, 0 if none was made: 0 and this id, or the error EAGAIN, which is 1 in this host
-abbrev pub stored_by_fork : ℕ → Dest → Dest → List Store
-stored_by_fork pid result child = if nat_eq pid 0 then (result, 1) ∷ [] else (result, 0) ∷ (child, pid) ∷ []
+-- what fork stores as it returns, by its phase and the id of the child, 0 if none was made. In the parent: 0 and this id, or EAGAIN. In
+-- the child: 0, and that it gets 0 for an id, too, is a choice of this host
+abbrev pub stored_by_fork : Phase → (pid : ℕ) → Dest → Dest → List Store
+stored_by_fork phase.Prepare pid result child = []
+stored_by_fork phase.Parent pid result child = if nat_eq pid 0 then (result, EAGAIN) ∷ [] else (result, 0) ∷ (child, pid) ∷ []
+stored_by_fork phase.Child pid result child = (result, 0) ∷ (child, 0) ∷ []
 
 -- what a thread stores as it returns from the call in which it is suspended with this status, in a step with these events
 abbrev pub stored_on_return : Status → Stmt → List What → List Store
@@ -81,10 +86,8 @@ stored_on_return (status.Joining target) (statement.Join id d) (what.Joined n v 
 -- XSH waitpid: 0 and the status of the child, or the error
 stored_on_return (status.InWaitPid pid) (statement.WaitPid result operand d) (what.Reaped child n ∷ []) = (result, 0) ∷ (d, n) ∷ []
 stored_on_return (status.InWaitPid pid) (statement.WaitPid result operand d) (what.Answer caller.WaitPid n ∷ []) = (result, n) ∷ []
--- XSH fork: the step without an event is the return, in the parent and in the child. That the child gets 0 for an id, too, is a choice of
--- this host
-stored_on_return (status.Forking phase.Parent index length pid) (statement.Fork result child) [] = stored_by_fork pid result child
-stored_on_return (status.Forking phase.Child index length pid) (statement.Fork result child) [] = (result, 0) ∷ (child, 0) ∷ []
+-- XSH fork: the step without an event is the return, in the parent and in the child
+stored_on_return (status.Forking at) (statement.Fork result child) [] = stored_by_fork at.phase at.answer result child
 stored_on_return _ _ _ = []
 
 -- what a thread with a status stores at its next statement, in a step with these events
@@ -129,7 +132,7 @@ left_of frames others = drop (length frames - length others) frames
 
 -- the answer that the fork of a thread with this status and these kept values has got: the thread is in fork, or in one of its handlers
 abbrev pub answer_by : Status → Option ForkAt → Option ℕ
-answer_by (status.Forking phase index length answer) kept = Some answer
+answer_by (status.Forking at) kept = Some at.answer
 answer_by _ kept = option_map (λ at. at.answer) kept
 
 -- the answer that the fork of a thread has got

@@ -12,6 +12,7 @@ use Rattle.pct_model.specs.declared.event.What.{What}
 use Rattle.pct_model.specs.declared.event.What.TheVariants as what
 use Rattle.pct_model.specs.declared.frame.Frame.{Frame}
 use Rattle.pct_model.specs.declared.limits.TheConstants.{MAX_EXIT_FUNCTIONS, MAX_FORK_HANDLERS, MAX_KEYS}
+use Rattle.pct_model.specs.declared.numbers.TheConstants.{EAGAIN, ECHILD, ENOMEM}
 use Rattle.pct_model.specs.declared.schedule.Config.{Config}
 use Rattle.pct_model.specs.declared.schedule.Entry.{Entry}
 use Rattle.pct_model.specs.declared.script.Script.{Script}
@@ -105,10 +106,10 @@ module _ (slots : ℕ) (body : List Stmt) (shared : SharedState) (threads : List
   -- XSH pthread_create: the end of `main` and of a start routine is a return of 0
   asked frame statement.End events = if closes_function body frame.pc then of_return frame.kind 0 events else is_empty events
   asked frame (statement.Return v) events = of_return frame.kind (value frame v) events
-  -- XSH pthread_create: a number that is free, or EAGAIN, which is 1 in this host, if none is. That it fails only then, and which
+  -- XSH pthread_create: a number that is free, or EAGAIN if none is. That it fails only then, and which
   -- numbers are free, are choices of this host
   asked frame (statement.Create result id f v detached) (what.Created n made_detached ∷ []) = is_among n (free_ids slots threads) && agree made_detached detached
-  asked frame (statement.Create result id f v detached) (what.Answer caller.Create n ∷ []) = nat_eq n 1 && all_slots_held slots threads
+  asked frame (statement.Create result id f v detached) (what.Answer caller.Create n ∷ []) = nat_eq n EAGAIN && all_slots_held slots threads
   -- XSH pthread_join: the call. That each call which may suspend the thread has an event of its own is a choice of this host
   asked frame (statement.Join id d) (what.Called index ∷ []) = nat_eq index join_point
   -- XSH pthread_detach, pthread_cancel, pthread_self, pthread_exit
@@ -126,7 +127,7 @@ module _ (slots : ℕ) (body : List Stmt) (shared : SharedState) (threads : List
   asked frame (statement.Pop v) events = of_pop (value frame v) t.handlers events
   -- XSH pthread_key_create: as for pthread_create
   asked frame (statement.KeyCreate result key destructor) (what.KeyMade n ∷ []) = is_among n (new_keys shared.keys)
-  asked frame (statement.KeyCreate result key destructor) (what.Answer caller.KeyCreate n ∷ []) = nat_eq n 1 && all_places_taken shared.keys
+  asked frame (statement.KeyCreate result key destructor) (what.Answer caller.KeyCreate n ∷ []) = nat_eq n EAGAIN && all_places_taken shared.keys
   -- XSH pthread_key_delete, pthread_setspecific, pthread_getspecific
   asked frame (statement.KeyDelete key) (what.KeyGone n ∷ []) = nat_eq n (value frame key)
   asked frame (statement.SetSpecific key v) events = is_empty events
@@ -142,14 +143,14 @@ module _ (slots : ℕ) (body : List Stmt) (shared : SharedState) (threads : List
   -- XSH sem_wait, sem_post
   asked frame (statement.SemWait sem) (what.Called index ∷ []) = nat_eq index sem_wait_point
   asked frame (statement.SemPost sem) (what.Posted n ∷ []) = nat_eq n sem
-  -- XSH pthread_atfork: ENOMEM, which is 2 in this host, past the limit of this host alone
-  asked frame (statement.AtFork result prepare parent child) (what.Answer caller.AtFork n ∷ []) = nat_eq n 2 && not (nat_lt (length shared.fork_handlers) MAX_FORK_HANDLERS)
+  -- XSH pthread_atfork: ENOMEM past the limit of this host alone
+  asked frame (statement.AtFork result prepare parent child) (what.Answer caller.AtFork n ∷ []) = nat_eq n ENOMEM && not (nat_lt (length shared.fork_handlers) MAX_FORK_HANDLERS)
   asked frame (statement.AtFork result prepare parent child) events = is_empty events && nat_lt (length shared.fork_handlers) MAX_FORK_HANDLERS
   -- XSH fork: its call
   asked frame (statement.Fork result child) events = is_empty events
-  -- XSH waitpid: the call, or ECHILD, which is 3 in this host. Which of them is not said here: it depends on the other processes
+  -- XSH waitpid: the call, or ECHILD. Which of them is not said here: it depends on the other processes
   asked frame (statement.WaitPid result pid d) (what.Called index ∷ []) = nat_eq index waitpid_point
-  asked frame (statement.WaitPid result pid d) (what.Answer caller.WaitPid n ∷ []) = nat_eq n 3
+  asked frame (statement.WaitPid result pid d) (what.Answer caller.WaitPid n ∷ []) = nat_eq n ECHILD
   -- XSH atexit: it fails with 1 in this host where no function can be registered
   asked frame (statement.AtExit result f) (what.Answer caller.AtExit n ∷ []) = nat_eq n 1 && not (has_room shared)
   asked frame (statement.AtExit result f) events = is_empty events && has_room shared

@@ -1,13 +1,14 @@
 -- The change of the list of processes that a transition makes can be made: a child has the next id, there is room for it, and the thread
 -- that forks holds its slot.
 use Rattle.pct_names.proofs.Names.{◌&&◌, ◌<◌, [], acts, and_parts, ap, body_at, Bool, cond, cond_some, Config, Entry, false, Family}
-use Rattle.pct_names.proofs.Names.{family_among, find, holds_slot, IfSome, in_fork, is_ended_status, is_live_thread, length, length-map}
+use Rattle.pct_names.proofs.Names.{family_among, find, holds_slot, IfSome, is_ended_status, is_live_thread, length, length-map}
 use Rattle.pct_names.proofs.Names.{List, map, moved, named_after, nat_eq, nat_lt, next_of, NextStatement, None, not, offers, Option}
 use Rattle.pct_names.proofs.Names.{option_and_then, option_and_then_some, option_map, Others, own_after, Parent, pid_after, position}
 use Rattle.pct_names.proofs.Names.{ProcessAction, refl, Relative, Script, SharedState, slice_get, slice_get-map, slot_of, Some, Status}
 use Rattle.pct_names.proofs.Names.{Stmt, subst, suc, sym, Thread, thread_at, thread_moved, Transition, true, ◌||◌, ℕ, ◌∙◌, ◌∷◌, ◌≡◌}
 use Rattle.std.proofs.lemmas.Bool.{ltb-true}
 use Rattle.pct_model.specs.declared.event.What.TheVariants as what
+use Rattle.pct_model.specs.declared.state.Status.TheVariants as status
 use Rattle.pct_model.specs.declared.transition.OwnAction.TheVariants as own_action
 use Rattle.pct_model.specs.declared.transition.ProcessAction.TheVariants as process_action
 use Rattle.pct_transition_cases.proofs.CaseOfTransition.{case_of}
@@ -26,7 +27,7 @@ use Rattle.pct_machine.proofs.LegalEntries.{found_at, test_passes}
 
 -- the transition that makes a child with an id, by a fork with this number of fork handlers
 abbrev fork_of : ℕ → ℕ → Transition
-fork_of count child = record (acts (what.Forked child ∷ [])) { own = Some (own_action.SetStatus (in_fork (record { phase = Parent; next = 0; length = count; answer = child }))); process = Some (process_action.Make child) }
+fork_of count child = record (acts (what.Forked child ∷ [])) { own = Some (own_action.SetStatus (status.Forking (record { phase = Parent; next = 0; length = count; answer = child }))); process = Some (process_action.Make child) }
 
 -- a transition that makes a child is that of fork, and the child has the id of a new process
 abbrev MakesBy : Family → Transition → Option ProcessAction → Type 0
@@ -35,7 +36,7 @@ MakesBy family o _ = Unit {0}
 
 module _ (passes : ℕ) (body : List Stmt) (shared : SharedState) (t : Thread) (others : Others) where
   by_case : {next : NextStatement} {s : Status} {o : Transition} → TransitionCase passes body shared t others true next s o → MakesBy others.family o o.process
-  by_case (process_forked next index count answer child is) = (count, is, refl)
+  by_case (process_forked next at child prepares is) = (at.length, is, refl)
   by_case _ = tt
 
 -- ---- the thread that forks

@@ -25,7 +25,6 @@ use Rattle.pct_model.specs.declared.transition.Transition.{Transition}
 use Rattle.pct_model.specs.Cancelability.{ending_state, ending_mode}
 use Rattle.pct_model.specs.CondCalls.{is_waiting_on, unblocked}
 use Rattle.pct_model.specs.Keys.{key_place, with_key, without_key, with_value, without_value, with_pass, without_pass}
-use Rattle.pct_model.specs.ForkCalls.{in_fork}
 use Rattle.pct_model.specs.OtherThreads.{is_last}
 use Rattle.pct_model.specs.World.{Thread, SharedState, ProcessEnd, Process, World, new_frame, new_thread}
 use Rattle.pct_model.specs.ThreadSlots.{is_live_thread}
@@ -151,7 +150,7 @@ other_process_after pid _ p = p
 
 -- the status of the replica of a thread with this status, which is in fork
 abbrev pub in_child : Status → Status
-in_child (Forking phase next length answer) = Forking Child 0 length 0
+in_child (Forking at) = Forking (record { phase = Child; next = 0; length = at.length; answer = 0 })
 in_child other = other
 
 -- the thread of the child: the replica of the thread that called fork (XSH fork). That it has that thread's id, cancelability, cleanup

@@ -163,7 +163,7 @@ module _ (body : List Stmt) (shared : SharedState) (t : Thread) (others : Others
       go_if (is_free_mutex m shared) ++ (if is_deliverable t.state t.pending then unblocked_acts why (others.waiters c) else [])
   choices_at next status.Ending = ending_choices t.handlers
   -- fork is no cancellation point (XSH 2.9.5.2)
-  choices_at next (status.Forking phase index length pid) = alt.Go ∷ []
+  choices_at next (status.Forking at) = alt.Go ∷ []
   -- cancelability is disabled, a choice of this host
   choices_at next status.Exiting = alt.Go ∷ []
   choices_at next (status.Ended v) = []

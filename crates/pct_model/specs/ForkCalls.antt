@@ -5,6 +5,7 @@ use Rattle.pct_model.specs.declared.event.Caller.TheVariants as caller
 use Rattle.pct_model.specs.declared.event.What.{What}
 use Rattle.pct_model.specs.declared.event.What.TheVariants as what
 use Rattle.pct_model.specs.declared.limits.TheConstants.{MAX_FORK_HANDLERS}
+use Rattle.pct_model.specs.declared.numbers.TheConstants.{EAGAIN, ECHILD, ENOMEM}
 use Rattle.pct_model.specs.declared.point.TheConstants.{WAITPID_POINT}
 use Rattle.pct_model.specs.declared.process.Child.{Child}
 use Rattle.pct_model.specs.declared.process.ForkHandlers.{ForkHandlers}
@@ -31,10 +32,6 @@ use Rattle.pct_model.specs.Transitions.{goes_on, acts, no_change}
 abbrev pub is_fork : Stmt → Bool
 is_fork (statement.Fork result child) = true
 is_fork _ = false
-
--- the status of a thread in fork
-abbrev pub in_fork : ForkAt → Status
-in_fork at = status.Forking at.phase at.next at.length at.answer
 
 -- ---- pthread_atfork
 
@@ -80,29 +77,29 @@ handler_event ChildPhase f = what.ChildRun f
 unfoldable pub calls_handler : ForkAt → HandlerCall → Transition
 calls_handler at call = record (acts (handler_event at.phase call.func ∷ [])) { own = Some (own_action.CallForkHandler (while_called at call.index) call.func) }
 
--- pthread_atfork, where this many registrations were made: the result is 0, or ENOMEM, which is 2 in this host, past its limit
+-- pthread_atfork, where this many registrations were made: the result is 0, or ENOMEM past the limit of this host
 unfoldable pub registers_fork : ℕ → ℕ → Dest → ForkHandlers → Transition
 registers_fork count next result handlers =
     if nat_lt count MAX_FORK_HANDLERS then record (goes_on next []) { writes = (result, 0) ∷ []; shared = Some (shared_action.AddForkHandlers handlers) }
-    else record (goes_on next (what.Answer caller.AtFork 2 ∷ [])) { writes = (result, 2) ∷ [] }
+    else record (goes_on next (what.Answer caller.AtFork ENOMEM ∷ [])) { writes = (result, ENOMEM) ∷ [] }
 
 -- ---- fork
 
 -- fork is called, in a process with this many registrations. That these are the ones that it uses, and that a fork is at least three
 -- transitions, its call, the fork and its return, are choices of this host
 unfoldable pub begins_fork : ℕ → Transition
-begins_fork count = record (acts []) { own = Some (own_action.SetStatus (in_fork (record { phase = Prepare; next = count; length = count; answer = 0 }))) }
+begins_fork count = record (acts []) { own = Some (own_action.SetStatus (status.Forking (record { phase = Prepare; next = count; length = count; answer = 0 }))) }
 
 -- a child process is made, with this id; without an id there is none, and fork fails with EAGAIN. That the parent handlers are called
 -- then, too, is a choice of this host
 unfoldable pub forks_by : ℕ → Option ℕ → Transition
-forks_by length (Some pid) = record (acts (what.Forked pid ∷ [])) { own = Some (own_action.SetStatus (in_fork (record { phase = Parent; next = 0; length = length; answer = pid }))); process = Some (process_action.Make pid) }
-forks_by length None = record (acts (what.Answer caller.Fork 1 ∷ [])) { own = Some (own_action.SetStatus (in_fork (record { phase = Parent; next = 0; length = length; answer = 0 }))) }
+forks_by length (Some pid) = record (acts (what.Forked pid ∷ [])) { own = Some (own_action.SetStatus (status.Forking (record { phase = Parent; next = 0; length = length; answer = pid }))); process = Some (process_action.Make pid) }
+forks_by length None = record (acts (what.Answer caller.Fork EAGAIN ∷ [])) { own = Some (own_action.SetStatus (status.Forking (record { phase = Parent; next = 0; length = length; answer = 0 }))) }
 
 -- fork returns in the process that called it: the result is 0, and the id of the child is written. If no child was made, the result is
--- EAGAIN, which is 1 in this host, and no id is written
+-- EAGAIN, and no id is written
 unfoldable pub returns_in_parent : ℕ → ℕ → Dest → Dest → Transition
-returns_in_parent pid next result child = if nat_eq pid 0 then record (goes_on next []) { writes = (result, 1) ∷ [] } else record (goes_on next []) { writes = (result, 0) ∷ (child, pid) ∷ [] }
+returns_in_parent pid next result child = if nat_eq pid 0 then record (goes_on next []) { writes = (result, EAGAIN) ∷ [] } else record (goes_on next []) { writes = (result, 0) ∷ (child, pid) ∷ [] }
 
 -- fork returns in the child: the result is 0, and so is the id that is written
 unfoldable pub returns_in_child : ℕ → Dest → Dest → Transition
@@ -122,7 +119,7 @@ goes_on_forking None at new_pid next = goes_on_after_handlers at.phase at new_pi
 
 -- a thread returns from a fork handler, with the values of its fork that it kept
 unfoldable pub leaves_handler : Option ForkAt → Transition
-leaves_handler (Some at) = record (acts []) { own = Some (own_action.Leave (in_fork at)) }
+leaves_handler (Some at) = record (acts []) { own = Some (own_action.Leave (status.Forking at)) }
 leaves_handler None = no_change
 
 -- ---- waitpid
@@ -131,9 +128,9 @@ leaves_handler None = no_change
 abbrev pub waitpid_point : ℕ
 waitpid_point = WAITPID_POINT
 
--- waitpid fails with ECHILD, which is 3 in this host: there is no such child that is not reaped
+-- waitpid fails with ECHILD: there is no such child that is not reaped
 unfoldable pub finds_no_child : ℕ → Dest → Transition
-finds_no_child next result = record (goes_on next (what.Answer caller.WaitPid 3 ∷ [])) { writes = (result, 3) ∷ [] }
+finds_no_child next result = record (goes_on next (what.Answer caller.WaitPid ECHILD ∷ [])) { writes = (result, ECHILD) ∷ [] }
 
 -- waitpid for the process with an id, which is this child or none: the thread is suspended until the child has ended. That this is two
 -- transitions also for a child that has ended is a choice of this host

@@ -6,6 +6,7 @@ use Rattle.pct_model.specs.declared.schedule.Alt.{Alt}
 use Rattle.pct_model.specs.declared.schedule.Alt.TheVariants as alt
 use Rattle.pct_model.specs.declared.event.Caller.TheVariants as caller
 use Rattle.pct_model.specs.declared.event.What.TheVariants as what
+use Rattle.pct_model.specs.declared.numbers.TheConstants.{EAGAIN}
 use Rattle.pct_model.specs.declared.transition.NamedAction.TheVariants as named_action
 use Rattle.pct_model.specs.declared.transition.OwnAction.TheVariants as own_action
 use Rattle.pct_model.specs.declared.transition.SharedAction.TheVariants as shared_action
@@ -19,9 +20,9 @@ unfoldable pub creates_key : ℕ → Dest → Dest → Option ℕ → ℕ → Tr
 creates_key next result key destructor k =
     record (goes_on next (what.KeyMade k ∷ [])) { writes = (result, 0) ∷ (key, k) ∷ []; shared = Some (shared_action.MakeKey k destructor) }
 
--- no place is free: the result is EAGAIN, which is 1 in this host, and the key is not written
+-- no place is free: the result is EAGAIN, and the key is not written
 unfoldable pub fails_to_create_key : ℕ → Dest → Transition
-fails_to_create_key next result = record (goes_on next (what.Answer caller.KeyCreate 1 ∷ [])) { writes = (result, 1) ∷ [] }
+fails_to_create_key next result = record (goes_on next (what.Answer caller.KeyCreate EAGAIN ∷ [])) { writes = (result, EAGAIN) ∷ [] }
 
 -- by the choice of the scheduler
 abbrev pub creates_key_by : Alt → ℕ → Dest → Dest → Option ℕ → Transition

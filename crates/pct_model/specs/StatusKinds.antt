@@ -17,7 +17,7 @@ has_no_frame _ = false
 
 -- a thread with this status is in fork
 abbrev pub is_forking : Status → Bool
-is_forking (status.Forking phase index length pid) = true
+is_forking (status.Forking at) = true
 is_forking _ = false
 
 -- a thread with this status acted upon a request in a condition wait, and does not own its mutex yet

@@ -8,6 +8,7 @@ use Rattle.pct_model.specs.declared.schedule.Alt.{Alt}
 use Rattle.pct_model.specs.declared.schedule.Alt.TheVariants as alt
 use Rattle.pct_model.specs.declared.event.Caller.TheVariants as caller
 use Rattle.pct_model.specs.declared.event.What.TheVariants as what
+use Rattle.pct_model.specs.declared.numbers.TheConstants.{EAGAIN}
 use Rattle.pct_model.specs.declared.point.TheConstants.{JOIN_POINT}
 use Rattle.pct_model.specs.declared.transition.NamedAction.TheVariants as named_action
 use Rattle.pct_model.specs.declared.transition.OwnAction.TheVariants as own_action
@@ -22,9 +23,9 @@ unfoldable pub creates : ℕ → Dest → Dest → ℕ → ℕ → ℕ → Bool 
 creates next result id new f v detached =
     record (creates_thread next (record { id = new; detached = detached; func = f; arg = v }) (what.Created new detached ∷ [])) { writes = (result, 0) ∷ (id, new) ∷ [] }
 
--- no slot is free: the result is EAGAIN, which is 1 in this host, and the id is not written
+-- no slot is free: the result is EAGAIN, and the id is not written
 unfoldable pub fails_to_create : ℕ → Dest → Transition
-fails_to_create next result = record (goes_on next (what.Answer caller.Create 1 ∷ [])) { writes = (result, 1) ∷ [] }
+fails_to_create next result = record (goes_on next (what.Answer caller.Create EAGAIN ∷ [])) { writes = (result, EAGAIN) ∷ [] }
 
 -- by the choice of the scheduler
 abbrev pub creates_by : Alt → ℕ → Dest → Dest → ℕ → ℕ → Bool → Transition

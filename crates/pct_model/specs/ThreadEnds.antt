@@ -3,6 +3,7 @@
 use Rattle.std.specs.Prelude.{ℕ, suc, Bool, true, false, not, ◌&&◌, if◌then◌else◌, List, [], ◌∷◌, ◌++◌, length, Option, Some, None, nat_eq, nat_lt, option_and_then}
 use Rattle.pct_model.specs.declared.event.What.{What}
 use Rattle.pct_model.specs.declared.event.What.TheVariants as what
+use Rattle.pct_model.specs.declared.numbers.TheConstants.{PTHREAD_CANCELED}
 use Rattle.pct_model.specs.declared.schedule.Alt.{Alt}
 use Rattle.pct_model.specs.declared.schedule.Alt.TheVariants as alt
 use Rattle.pct_model.specs.declared.state.FrameKind.TheVariants as kind
@@ -20,11 +21,11 @@ use Rattle.pct_model.specs.World.{Thread}
 unfoldable pub ends_by_exit : ℕ → Transition
 ends_by_exit v = record (acts (what.EndingExit v ∷ [])) { own = Some (own_action.BeginEnd (reason.Exit v)) }
 
--- the exit value of a thread, by the reason for its end: PTHREAD_CANCELED is 4294967295 in this host
+-- the exit value of a thread, by the reason for its end
 abbrev pub end_value : Reason → ℕ
 end_value reason.None = 0
 end_value (reason.Exit v) = v
-end_value reason.Canceled = 4294967295
+end_value reason.Canceled = PTHREAD_CANCELED
 
 -- the event of due keys that are left when a thread ends, if there are any
 abbrev pub leftover : ℕ → List What

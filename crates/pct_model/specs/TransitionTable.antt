@@ -120,9 +120,7 @@ module _ (passes : ℕ) (body : List Stmt) (shared : SharedState) (t : Thread) (
   -- XSH 2.9.5.3, pthread_exit, pthread_key_create: cleanup handlers, then destructors, then the end
   transition_at next status.Ending = goes_on_ending others.is_last passes shared.keys t choice t.handlers
   -- XSH fork
-  transition_at next (status.Forking phase index length answer) =
-      let at : ForkAt = record { phase = phase; next = index; length = length; answer = answer } in
-      goes_on_forking (next_handler shared.fork_handlers at) at others.family.new_pid next
+  transition_at next (status.Forking at) = goes_on_forking (next_handler shared.fork_handlers at) at others.family.new_pid next
   -- XSH exit
   transition_at next status.Exiting = goes_on_exiting shared.exit_functions shared.exit_value
   -- no choice by which it goes on is offered to any other thread (ChoiceTable.antt)

@@ -10,6 +10,7 @@ mod keyword;
 mod limits;
 mod line_kind;
 mod name;
+mod numbers;
 mod parsed_line;
 mod point;
 mod process;
@@ -37,6 +38,7 @@ pub use limits::{
 };
 pub use line_kind::{ArgumentKind, LINE_KINDS, LineKind, SymbolKind};
 pub use name::{MAX_NAME, Name};
+pub use numbers::{EAGAIN, ECHILD, ENOMEM, PTHREAD_CANCELED};
 pub use parsed_line::{Argument, ParsedLine, Token, Tokens};
 pub use point::{
     CLOSE_POINT, COND_WAIT_POINT, JOIN_POINT, OPEN_POINT, PAUSE_POINT, Point, PointKind, PointWait,

@@ -55,8 +55,8 @@ pub enum Status {
     /// Suspended in pthread_cond_wait until it owns the mutex again.
     Reacquire(u32, u32, Cause),
     Ending,
-    /// In fork: the values of `ForkAt`, in its order.
-    Forking(Phase, u32, u32, u32),
+    /// In fork.
+    Forking(ForkAt),
     Exiting,
     Ended(u32),
 }

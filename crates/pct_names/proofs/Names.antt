@@ -91,6 +91,7 @@ pub use Rattle.pct_model.specs.declared.line_kind.ArgumentKind.{ArgumentKind}
 pub use Rattle.pct_model.specs.declared.line_kind.LineKind.{LineKind}
 pub use Rattle.pct_model.specs.declared.line_kind.SymbolKind.{SymbolKind}
 pub use Rattle.pct_model.specs.declared.name.Name.{Name}
+pub use Rattle.pct_model.specs.declared.numbers.TheConstants.{EAGAIN, ECHILD, ENOMEM}
 pub use Rattle.pct_model.specs.declared.parsed_line.Argument.{Argument}
 pub use Rattle.pct_model.specs.declared.parsed_line.ParsedLine.{ParsedLine}
 pub use Rattle.pct_model.specs.declared.parsed_line.Token.{Token}
@@ -179,7 +180,7 @@ unfoldable pub use Rattle.pct_model.specs.Demo.{demo_number, summary_lines, tota
 pub use Rattle.pct_model.specs.EventTexts.{caller_name, either, func_name, line_kind_of_caller}
 unfoldable pub use Rattle.pct_model.specs.EventTexts.{event_words}
 pub use Rattle.pct_model.specs.ForkCalls.{begins_waitpid, goes_on_after_handlers, goes_on_forking, handler_at, handler_event, handler_for}
-pub use Rattle.pct_model.specs.ForkCalls.{handlers_among, in_fork, indexes_left, reaps_if, waitpid_point, waits_at, while_called}
+pub use Rattle.pct_model.specs.ForkCalls.{handlers_among, indexes_left, reaps_if, waitpid_point, waits_at, while_called}
 unfoldable pub use Rattle.pct_model.specs.ForkCalls.{begins_fork, calls_handler, finds_no_child, forks_by, leaves_handler, next_handler}
 unfoldable pub use Rattle.pct_model.specs.ForkCalls.{reaps, registers_fork, returns_in_child, returns_in_parent}
 pub use Rattle.pct_model.specs.GeneratedScript.{end_texts, first_globals, later_declarations, rounds_of, threads_of}

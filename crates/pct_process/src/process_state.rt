@@ -11,7 +11,7 @@ use crate::fork_registrations::ForkRegistrations;
 use crate::numbers::Numbers;
 use pct_io::NoMemory;
 use pct_keys::Keys;
-use pct_model::{FrameKind, Phase, Reason, Script, Status, main_of};
+use pct_model::{ForkAt, FrameKind, Phase, Reason, Script, Status, main_of};
 use pct_set::SlotSet;
 use pct_threads::{Thread, Threads};
 use std::alloc::Global;
@@ -205,7 +205,12 @@ fn in_child(status: Status) -> Status
     ensures { result ≡ in_child status }
 {
     match status {
-        Status::Forking(_, _, length, _) => Status::Forking(Phase::Child, 0, length, 0),
+        Status::Forking(at) => Status::Forking(ForkAt {
+            phase: Phase::Child,
+            next: 0,
+            length: at.length,
+            answer: 0,
+        }),
         other => other,
     }
 }

@@ -251,7 +251,7 @@ module _ (script : Script) (config : Config) where
     kept = λ w p t k choice registered offered fits.
         let others : Others = others_of config.slots w p t.id in
         case_fits script config.passes p.shared registered t others t.status t.frames (is_placed script t.frames) (case_of config.passes (body_at script t.frames) p.shared t others true choice (next_of script t.frames) t.status (λ known. offered)) fits;
-    replica = λ w p t k index count answer registered forks fits. inl (child_fits t (ap is_running forks) t.frames fits);
+    replica = λ w p t k at registered forks fits. inl (child_fits t (ap is_running forks) t.frames fits);
   }
 
   -- the fork of each thread

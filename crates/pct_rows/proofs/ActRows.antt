@@ -197,7 +197,7 @@ no_points = refl
 at_a_point : map (is_at_cancellation_point NoStatement) (status.AtPoint 16 ∷ status.Joining 2 ∷ status.InSem 0 ∷ status.InWaitPid 2 ∷ status.Waiting 0 0 ∷ status.Reacquire 0 0 cause.Signalled ∷ status.Reacquire 0 0 cause.Broadcast ∷ status.Reacquire 0 0 cause.Canceled ∷ []) ≡ replicate 8 true
 at_a_point = refl
 
-at_none : map (is_at_cancellation_point NoStatement) (status.Running ∷ status.Ending ∷ status.Forking Prepare 0 0 0 ∷ status.Exiting ∷ status.Ended 5 ∷ []) ≡ replicate 5 false
+at_none : map (is_at_cancellation_point NoStatement) (status.Running ∷ status.Ending ∷ status.Forking (record { phase = Prepare; next = 0; length = 0; answer = 0 }) ∷ status.Exiting ∷ status.Ended 5 ∷ []) ≡ replicate 5 false
 at_none = refl
 
 -- ---- states
@@ -244,7 +244,7 @@ suspended_ones = status.AtPoint 16 ∷ status.AtPoint 25 ∷ status.Joining 2 �
 are_suspended : map is_suspended suspended_ones ≡ replicate 8 true
 are_suspended = refl
 
-are_not : map is_suspended (status.Running ∷ status.Reacquire 0 0 cause.Canceled ∷ status.Ending ∷ status.Forking Prepare 0 0 0 ∷ status.Exiting ∷ status.Ended 5 ∷ []) ≡ replicate 6 false
+are_not : map is_suspended (status.Running ∷ status.Reacquire 0 0 cause.Canceled ∷ status.Ending ∷ status.Forking (record { phase = Prepare; next = 0; length = 0; answer = 0 }) ∷ status.Exiting ∷ status.Ended 5 ∷ []) ≡ replicate 6 false
 are_not = refl
 
 -- with a request pending each of them may act

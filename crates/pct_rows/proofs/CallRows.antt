@@ -638,7 +638,7 @@ and_keeps_the_others law = elim (law refl) [
 
 -- a thread in fork calls function 6, above its frames
 abbrev forking : Thread
-forking = record (thread (main ∷ []) 0) { status = status.Forking Prepare 1 1 0 }
+forking = record (thread (main ∷ []) 0) { status = status.Forking (record { phase = Prepare; next = 1; length = 1; answer = 0 }) }
 
 abbrev fork_handler : ℕ → Frame
 fork_handler f = new_frame f 0 kind.ForkFn

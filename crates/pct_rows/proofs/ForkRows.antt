@@ -76,12 +76,12 @@ unfolding runs_on_literals
 handler_calls = refl
 
 -- a return from a handler goes on with it, whatever its value
-handler_returns : map (λ kept. returns_by kept kind.ForkFn 5) (Some (in_phase Parent 3 2) ∷ None ∷ []) ≡ record (acts []) { own = Some (own_action.Leave (status.Forking Parent 2 3 7)) } ∷ no_change ∷ []
+handler_returns : map (λ kept. returns_by kept kind.ForkFn 5) (Some (in_phase Parent 3 2) ∷ None ∷ []) ≡ record (acts []) { own = Some (own_action.Leave (status.Forking (in_phase Parent 3 2))) } ∷ no_change ∷ []
 unfolding runs_on_literals
 handler_returns = refl
 
 -- after the prepare handlers a child is made, or fork fails: both begin with the parent handlers, and with the same registrations
-after_the_prepare_handlers : map (λ pid. goes_on_forking None (in_phase Prepare 3 0) pid NoStatement) (Some 9 ∷ None ∷ []) ≡ record (acts (what.Forked 9 ∷ [])) { own = Some (own_action.SetStatus (status.Forking Parent 0 3 9)); process = Some (process_action.Make 9) } ∷ record (acts (what.Answer caller.Fork 1 ∷ [])) { own = Some (own_action.SetStatus (status.Forking Parent 0 3 0)) } ∷ []
+after_the_prepare_handlers : map (λ pid. goes_on_forking None (in_phase Prepare 3 0) pid NoStatement) (Some 9 ∷ None ∷ []) ≡ record (acts (what.Forked 9 ∷ [])) { own = Some (own_action.SetStatus (status.Forking (record { phase = Parent; next = 0; length = 3; answer = 9 }))); process = Some (process_action.Make 9) } ∷ record (acts (what.Answer caller.Fork 1 ∷ [])) { own = Some (own_action.SetStatus (status.Forking (record { phase = Parent; next = 0; length = 3; answer = 0 }))) } ∷ []
 unfolding runs_on_literals
 after_the_prepare_handlers = refl
 
@@ -100,7 +100,7 @@ registrations = refl
 
 -- the child of a process in which thread 1 forks beside another thread is restricted
 abbrev is_restricted : Thread → Bool
-is_restricted other = (child_of 1 6 (process 1 (in_status 1 (status.Forking Prepare 0 0 0) ∷ other ∷ []))).shared.restricted
+is_restricted other = (child_of 1 6 (process 1 (in_status 1 (status.Forking (in_phase Prepare 0 0)) ∷ other ∷ []))).shared.restricted
 
 -- the other thread has not ended: it is running, suspended, ending, or exiting; ended ones that were not joined do not count, nor those
 -- that the process did not inherit

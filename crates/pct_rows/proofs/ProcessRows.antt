@@ -64,7 +64,7 @@ forking = refl
 -- thread 2 is in a fork that uses 3 registrations, in a process whose thread 1 has not ended: it has a handler, disabled cancelability and a
 -- request, and is detached
 abbrev forks : Thread
-forks = record (new_thread 2 true (new_frame 3 7 kind.Start)) { status = status.Forking Prepare 0 3 0; state = Disable; pending = true; handlers = (4, 5) ∷ [] }
+forks = record (new_thread 2 true (new_frame 3 7 kind.Start)) { status = status.Forking (record { phase = Prepare; next = 0; length = 3; answer = 0 }); state = Disable; pending = true; handlers = (4, 5) ∷ [] }
 
 abbrev made : Process
 made = child_of 2 6 (record (first_process smallest) { threads = new_thread 1 false (new_frame 0 0 kind.Main) ∷ forks ∷ []; shared = record (new_shared smallest) { owners = 1 ∷ 2 ∷ []; exit_functions = 8 ∷ []; exit_value = Some 3 } })
@@ -74,7 +74,7 @@ threads_of_the_child : map (λ (t : Thread). t.gone) made.threads ≡ true ∷ f
 unfolding runs_on_literals
 threads_of_the_child = refl
 
-replica : drop 1 made.threads ≡ record forks { status = status.Forking ChildPhase 0 3 0; pending = false } ∷ []
+replica : drop 1 made.threads ≡ record forks { status = status.Forking (record { phase = ChildPhase; next = 0; length = 3; answer = 0 }); pending = false } ∷ []
 unfolding runs_on_literals
 replica = refl
 

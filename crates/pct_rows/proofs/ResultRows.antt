@@ -2,8 +2,8 @@
 -- has the name of the sentence that it breaks.
 use Rattle.pct_names.proofs.Names.{◌<◌, [], and_parts, ap, ap₂, arith, Bool, codes, cond, false, false≢true, first_process, Frame, is_empty}
 use Rattle.pct_names.proofs.Names.{is_static, IsTrue, List, list_all, nat_eq, nat_lt, new_frame, new_shared, new_thread, None, none-some}
-use Rattle.pct_names.proofs.Names.{Option, option_map, Process, refl, same_Some, Script, slice_index, Some, Status, Stmt, suc, sym, Thread}
-use Rattle.pct_names.proofs.Names.{true, What, zero, ℕ, ◌∙◌, ◌∷◌, ◌≡◌}
+use Rattle.pct_names.proofs.Names.{Option, option_map, Phase, Process, refl, same_Some, Script, slice_index, Some, Status, Stmt, suc, sym}
+use Rattle.pct_names.proofs.Names.{Thread, true, What, zero, ℕ, ◌∙◌, ◌∷◌, ◌≡◌}
 use Rattle.std.proofs.Common.{ne_eqb}
 use Rattle.std.proofs.lemmas.Bool.{ltb-true, true≢false}
 use Rattle.pct_model.specs.declared.event.Caller.TheVariants as caller
@@ -240,23 +240,27 @@ no_other_value law = let n : ◌≡◌ {A = ℕ} 0 6 = law.globals 0 in omega (a
 
 -- ---- fork
 
-the_parent_gets_the_id : StoresResults script (step 7 (status.Forking phase.Parent 0 0 2) [] 2 0 7)
-unfolding runs_on_literals
-the_parent_gets_the_id = keeps 7 (status.Forking phase.Parent 0 0 2) [] 2 0 7 refl (λ none. absurd (false≢true none)) refl refl refl
+-- a thread in a phase of a fork, with a next registration, their number, and an answer
+abbrev forking : Phase → (next length answer : ℕ) → Status
+forking phase next length answer = status.Forking (record { phase = phase; next = next; length = length; answer = answer })
 
-the_child_gets_0 : StoresResults script (step 7 (status.Forking phase.Child 0 0 0) [] 0 0 7)
+the_parent_gets_the_id : StoresResults script (step 7 (forking phase.Parent 0 0 2) [] 2 0 7)
 unfolding runs_on_literals
-the_child_gets_0 = keeps 7 (status.Forking phase.Child 0 0 0) [] 0 0 7 refl (λ none. absurd (false≢true none)) refl refl refl
+the_parent_gets_the_id = keeps 7 (forking phase.Parent 0 0 2) [] 2 0 7 refl (λ none. absurd (false≢true none)) refl refl refl
 
-and_no_id_of_its_own : StoresResults script (step 7 (status.Forking phase.Child 0 0 0) [] 2 0 7) → ⊥
+the_child_gets_0 : StoresResults script (step 7 (forking phase.Child 0 0 0) [] 0 0 7)
+unfolding runs_on_literals
+the_child_gets_0 = keeps 7 (forking phase.Child 0 0 0) [] 0 0 7 refl (λ none. absurd (false≢true none)) refl refl refl
+
+and_no_id_of_its_own : StoresResults script (step 7 (forking phase.Child 0 0 0) [] 2 0 7) → ⊥
 unfolding runs_on_literals
 and_no_id_of_its_own law = let n : ◌≡◌ {A = ℕ} 2 0 = law.globals 0 in omega (arith, n)
 
-where_there_is_no_child_fork_fails : StoresResults script (step 7 (status.Forking phase.Parent 0 0 0) [] 7 1 7)
+where_there_is_no_child_fork_fails : StoresResults script (step 7 (forking phase.Parent 0 0 0) [] 7 1 7)
 unfolding runs_on_literals
-where_there_is_no_child_fork_fails = keeps 7 (status.Forking phase.Parent 0 0 0) [] 7 1 7 refl (λ none. absurd (false≢true none)) refl refl refl
+where_there_is_no_child_fork_fails = keeps 7 (forking phase.Parent 0 0 0) [] 7 1 7 refl (λ none. absurd (false≢true none)) refl refl refl
 
-and_does_not_succeed : StoresResults script (step 7 (status.Forking phase.Parent 0 0 0) [] 7 0 7) → ⊥
+and_does_not_succeed : StoresResults script (step 7 (forking phase.Parent 0 0 0) [] 7 0 7) → ⊥
 unfolding runs_on_literals
 and_does_not_succeed law = let n : ◌≡◌ {A = ℕ} 0 1 = no_local (law.locals refl 0) in omega (arith, n)
 
@@ -266,24 +270,24 @@ and_does_not_succeed law = let n : ◌≡◌ {A = ℕ} 0 1 = no_local (law.local
 abbrev in_fork : Status → List What → Status → ThreadStep
 in_fork before events after = step_to (at 7 before 7 7) (at 7 after 7 7) events 7
 
-the_event_gives_the_answer : KeepsAnswer script (in_fork (status.Forking phase.Prepare 0 0 0) (what.Forked 2 ∷ []) (status.Forking phase.Parent 0 0 2))
+the_event_gives_the_answer : KeepsAnswer script (in_fork (forking phase.Prepare 0 0 0) (what.Forked 2 ∷ []) (forking phase.Parent 0 0 2))
 the_event_gives_the_answer = record { given = λ n said. said; kept = λ quiet other n m before after. absurd (none-some 2 (sym quiet)) }
 
-and_no_other_one : KeepsAnswer script (in_fork (status.Forking phase.Prepare 0 0 0) (what.Forked 2 ∷ []) (status.Forking phase.Parent 0 0 3)) → ⊥
+and_no_other_one : KeepsAnswer script (in_fork (forking phase.Prepare 0 0 0) (what.Forked 2 ∷ []) (forking phase.Parent 0 0 3)) → ⊥
 and_no_other_one law = let n : ◌≡◌ {A = ℕ} 3 2 = same_Some 3 2 (law.given 2 refl) in omega (arith, n)
 
-where_no_process_is_made_it_is_0 : KeepsAnswer script (in_fork (status.Forking phase.Prepare 0 0 0) (what.Answer caller.Fork 1 ∷ []) (status.Forking phase.Parent 0 0 2)) → ⊥
+where_no_process_is_made_it_is_0 : KeepsAnswer script (in_fork (forking phase.Prepare 0 0 0) (what.Answer caller.Fork 1 ∷ []) (forking phase.Parent 0 0 2)) → ⊥
 where_no_process_is_made_it_is_0 law = let n : ◌≡◌ {A = ℕ} 2 0 = same_Some 2 0 (law.given 0 refl) in omega (arith, n)
 
 -- the parent handler of the only registration returns, or is called
 abbrev in_handler : Thread
 in_handler = record (at 10 status.Running 7 7) { kept = Some (record { phase = phase.Parent; next = 1; length = 1; answer = 2 }) }
 
-no_handler_changes_it : KeepsAnswer script (step_to in_handler (at 7 (status.Forking phase.Parent 1 1 0) 7 7) [] 7) → ⊥
+no_handler_changes_it : KeepsAnswer script (step_to in_handler (at 7 (forking phase.Parent 1 1 0) 7 7) [] 7) → ⊥
 unfolding runs_on_literals
 no_handler_changes_it law = let n : ◌≡◌ {A = ℕ} 2 0 = law.kept refl refl 2 0 refl refl in omega (arith, n)
 
-nor_its_call : KeepsAnswer script (step_to (at 7 (status.Forking phase.Parent 0 1 0) 7 7) in_handler (what.ParentRun 0 ∷ []) 7) → ⊥
+nor_its_call : KeepsAnswer script (step_to (at 7 (forking phase.Parent 0 1 0) 7 7) in_handler (what.ParentRun 0 ∷ []) 7) → ⊥
 unfolding runs_on_literals
 nor_its_call law = let n : ◌≡◌ {A = ℕ} 0 2 = law.kept refl refl 0 2 refl refl in omega (arith, n)
 

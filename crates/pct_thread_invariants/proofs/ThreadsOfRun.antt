@@ -89,7 +89,7 @@ module _ (script : Script) (config : Config) where
     created = λ w p t s choice new known offered fits is. created_fits script (push_matches script) (names_functions script) config w p t choice known.0.keys known.1 offered new is;
     named = named_fits script passes;
     kept = λ w p t s choice known offered fits. (keeps w p t s choice known offered fits).own;
-    replica = λ w p t s index count answer known forks fits. replica_fits script passes t s (ap is_forking forks) fits;
+    replica = λ w p t s at known forks fits. replica_fits script passes t s (ap is_forking forks) fits;
   }
 
   -- ---- runs

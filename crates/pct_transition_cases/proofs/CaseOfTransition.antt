@@ -3,11 +3,11 @@ use Rattle.pct_names.proofs.Names.{◌&&◌, ◌++◌, ◌<◌, [], acts, acts_o
 use Rattle.pct_names.proofs.Names.{arith, AsyncCall, begins_fork, begins_join, begins_sem_wait, begins_wait, begins_waitpid, Bool}
 use Rattle.pct_names.proofs.Names.{broadcasts, called_kind, calls, calls_destructor, calls_handler, calls_point, Cause, choices_at, cond}
 use Rattle.pct_names.proofs.Names.{cond_wait_point, creates, creates_by, creates_key, creates_key_by, deletes_key, Dest, detaches, due_keys}
-use Rattle.pct_names.proofs.Names.{emits, end_value, ends_block, ends_by_exit, ends_join, ends_now, ends_thread, eqb-false, exit_value_of}
-use Rattle.pct_names.proofs.Names.{exits, exits_twice, fails_to_create, fails_to_create_key, false, find, finds_no_child, first_stop}
-use Rattle.pct_names.proofs.Names.{ForkAt, ForkChildCall, forks_by, Frame, FrameKind, gets_self, gets_specific, goes_on}
+use Rattle.pct_names.proofs.Names.{EAGAIN, emits, end_value, ends_block, ends_by_exit, ends_join, ends_now, ends_thread, eqb-false}
+use Rattle.pct_names.proofs.Names.{exit_value_of, exits, exits_twice, fails_to_create, fails_to_create_key, false, find, finds_no_child}
+use Rattle.pct_names.proofs.Names.{first_stop, ForkAt, ForkChildCall, forks_by, Frame, FrameKind, gets_self, gets_specific, goes_on}
 use Rattle.pct_names.proofs.Names.{goes_on_after_handlers, goes_on_ending, goes_on_exiting, goes_on_forking, HandlerCall, hands_on}
-use Rattle.pct_names.proofs.Names.{has_begun_to_end, in_fork, inl, inr, is_allowed_asynchronously, is_asynchronous, is_deliverable}
+use Rattle.pct_names.proofs.Names.{has_begun_to_end, inl, inr, is_allowed_asynchronously, is_asynchronous, is_deliverable}
 use Rattle.pct_names.proofs.Names.{is_forbidden_in_child, is_in_handler, is_none, is_required, is_some, is_stack_full, join_point, joins_at}
 use Rattle.pct_names.proofs.Names.{jumps, Key, key_place, key_with, leaves_handler, leaves_wait, left_keys, length, List, list_any, locks}
 use Rattle.pct_names.proofs.Names.{MAX_FORK_HANDLERS, MAX_FRAMES, MAX_HANDLERS, may_register, nat_eq, nat_lt, next_handler, NextStatement}
@@ -311,29 +311,29 @@ module _ (passes : ℕ) (body : List Stmt) (shared : SharedState) (t : Thread) (
 
   -- ---- threads in fork
 
-  forked_case : (index length answer : ℕ) (next : NextStatement) (new_pid : Option ℕ) → others.family.new_pid ≡ new_pid → Case next (status.Forking Prepare index length answer) (forks_by length new_pid)
+  forked_case : (at : ForkAt) → at.phase ≡ Prepare → (next : NextStatement) (new_pid : Option ℕ) → others.family.new_pid ≡ new_pid → Case next (status.Forking at) (forks_by at.length new_pid)
   unfolding forks_by
-  forked_case index length answer next (Some new) is = process_forked next index length answer new is
-  forked_case index length answer next None is = process_not_forked next index length answer
+  forked_case at prepares next (Some new) is = process_forked next at new prepares is
+  forked_case at prepares next None is = process_not_forked next at prepares
 
-  parent_case : (frame : Frame) (result child : Dest) (index length pid : ℕ) (none : Bool)
-      → Case (StatementIn frame (statement.Fork result child)) (status.Forking Parent index length pid) (cond none (record (goes_on (suc frame.pc) []) { writes = (result, 1) ∷ [] }) (record (goes_on (suc frame.pc) []) { writes = (result, 0) ∷ (child, pid) ∷ [] }))
-  parent_case frame result child index length pid true = fork_failed frame result child index length pid
-  parent_case frame result child index length pid false = fork_returned frame result child Parent index length pid pid
+  parent_case : (frame : Frame) (result child : Dest) (at : ForkAt) → at.phase ≡ Parent → (none : Bool)
+      → Case (StatementIn frame (statement.Fork result child)) (status.Forking at) (cond none (record (goes_on (suc frame.pc) []) { writes = (result, EAGAIN) ∷ [] }) (record (goes_on (suc frame.pc) []) { writes = (result, 0) ∷ (child, at.answer) ∷ [] }))
+  parent_case frame result child at returns true = fork_failed frame result child at returns
+  parent_case frame result child at returns false = fork_returned frame result child at at.answer
 
   -- a thread in fork goes on where no handler of the phase is left
-  phase_case : (phase : Phase) (at : ForkAt) (next : NextStatement) → Case next (status.Forking phase at.next at.length at.answer) (goes_on_after_handlers phase at others.family.new_pid next)
+  phase_case : (phase : Phase) (at : ForkAt) → at.phase ≡ phase → (next : NextStatement) → Case next (status.Forking at) (goes_on_after_handlers phase at others.family.new_pid next)
   unfolding returns_in_parent returns_in_child
-  phase_case Prepare at next = forked_case at.next at.length at.answer next others.family.new_pid refl
-  phase_case Parent at (StatementIn frame (statement.Fork result child)) = parent_case frame result child at.next at.length at.answer (nat_eq at.answer 0)
-  phase_case ChildPhase at (StatementIn frame (statement.Fork result child)) = fork_returned frame result child ChildPhase at.next at.length at.answer 0
-  phase_case phase at next = rests next (status.Forking phase at.next at.length at.answer) (λ known. refl)
+  phase_case Prepare at is next = forked_case at is next others.family.new_pid refl
+  phase_case Parent at is (StatementIn frame (statement.Fork result child)) = parent_case frame result child at is (nat_eq at.answer 0)
+  phase_case ChildPhase at is (StatementIn frame (statement.Fork result child)) = fork_returned frame result child at 0
+  phase_case phase at is next = rests next (status.Forking at) (λ known. refl)
 
   -- a thread in fork goes on: it calls the handler that is left, if one is
-  forking_case : (at : ForkAt) (next : NextStatement) (left : Option HandlerCall) → next_handler shared.fork_handlers at ≡ left → Case next (in_fork at) (goes_on_forking left at others.family.new_pid next)
+  forking_case : (at : ForkAt) (next : NextStatement) (left : Option HandlerCall) → next_handler shared.fork_handlers at ≡ left → Case next (status.Forking at) (goes_on_forking left at others.family.new_pid next)
   unfolding calls_handler
   forking_case at next (Some call) is = fork_handler_called next at call is
-  forking_case at next None is = phase_case at.phase at next
+  forking_case at next None is = phase_case at.phase at refl next
 
   -- ---- threads that end
 
@@ -408,9 +408,7 @@ module _ (passes : ℕ) (body : List Stmt) (shared : SharedState) (t : Thread) (
   going_case choice next (status.InWaitPid pid) may = waited_case pid (others.family.child pid) refl next
   going_case choice next (status.Reacquire c m why) may = reacquired_case c m why next (goes choice next (status.Reacquire c m why) may)
   going_case choice next status.Ending may = ending_case choice next (λ known. (may known).0) t.handlers refl
-  going_case choice next (status.Forking phase index length answer) may =
-      let at : ForkAt = record { phase = phase; next = index; length = length; answer = answer } in
-      forking_case at next (next_handler shared.fork_handlers at) refl
+  going_case choice next (status.Forking at) may = forking_case at next (next_handler shared.fork_handlers at) refl
   going_case choice next status.Exiting may = exit_case next shared.exit_functions refl shared.exit_value refl
   going_case choice next s may = rests next s (λ known. offered_alive (offered_of body shared t others choice next s (may known).0))
 

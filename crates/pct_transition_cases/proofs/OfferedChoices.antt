@@ -288,8 +288,8 @@ module _ (body : List Stmt) (shared : SharedState) (t : Thread) (others : Others
       go_or_has (Offered shared t others next (status.Reacquire c m why)) choice (is_free_mutex m shared) (cond delivered (unblocked_acts why (others.waiters c)) [])
       (may_go next (status.Reacquire c m why)) (unblocked_offered next c m why delivered (λ is. is)) offered
   offered_of next status.Ending offered = ending_offered next t.handlers refl offered
-  offered_of next (status.Forking phase index length pid) offered =
-      each_has (Offered shared t others next (status.Forking phase index length pid)) choice (alt.Go ∷ []) (may_go next (status.Forking phase index length pid) refl, tt) offered
+  offered_of next (status.Forking at) offered =
+      each_has (Offered shared t others next (status.Forking at)) choice (alt.Go ∷ []) (may_go next (status.Forking at) refl, tt) offered
   offered_of next status.Exiting offered = each_has (Offered shared t others next status.Exiting) choice (alt.Go ∷ []) (may_go next status.Exiting refl, tt) offered
   offered_of next _ offered = absurd (false≢true offered)
 

@@ -2,15 +2,15 @@
 -- with what is known of the thread where it is made. A proof about transitions has a clause for each case of which it has something to
 -- say, and one for all others.
 use Rattle.pct_names.proofs.Names.{◌%◌, ◌&&◌, ◌+◌, ◌-◌, ◌<◌, [], acts, after_block, after_end, after_test, Asynchronous, Bool}
-use Rattle.pct_names.proofs.Names.{calls_cancellation_point, Cause, cond_wait_point, creates_thread, Dest, due_keys, end_value, false}
-use Rattle.pct_names.proofs.Names.{ForkAt, ForkHandlers, Frame, goes_on, handler_event, HandlerCall, has_begun_to_end, has_left_wait}
-use Rattle.pct_names.proofs.Names.{in_fork, is_deliverable, is_ended_status, is_free_mutex, is_in_handler, is_none, is_required, is_some}
-use Rattle.pct_names.proofs.Names.{join_point, Key, key_place, key_with, left_keys, length, List, list_any, MAX_FORK_HANDLERS, MAX_FRAMES}
-use Rattle.pct_names.proofs.Names.{MAX_HANDLERS, may_register, mode_if, mode_number, nat_eq, nat_lt, new_keys, next_handler, NextStatement}
-use Rattle.pct_names.proofs.Names.{no_change, None, open_of, Operand, Option, Others, owns, Parent, Phase, point_kind, Prepare, Required}
-use Rattle.pct_names.proofs.Names.{sem_wait_point, SharedState, slice_index, Some, state_if, state_number, StatementIn, Status, Stmt, stops}
-use Rattle.pct_names.proofs.Names.{suc, testcancel_point, Thread, Transition, true, value_at, value_of, variable_value, waitpid_point}
-use Rattle.pct_names.proofs.Names.{waits_with_another_mutex, while_called, Why, ℕ, ◌∷◌, ◌≡◌, ◌≤◌, ◌⊎◌}
+use Rattle.pct_names.proofs.Names.{calls_cancellation_point, Cause, cond_wait_point, creates_thread, Dest, due_keys, EAGAIN, ECHILD}
+use Rattle.pct_names.proofs.Names.{end_value, ENOMEM, false, ForkAt, ForkHandlers, Frame, goes_on, handler_event, HandlerCall}
+use Rattle.pct_names.proofs.Names.{has_begun_to_end, has_left_wait, is_deliverable, is_ended_status, is_free_mutex, is_in_handler, is_none}
+use Rattle.pct_names.proofs.Names.{is_required, is_some, join_point, Key, key_place, key_with, left_keys, length, List, list_any}
+use Rattle.pct_names.proofs.Names.{MAX_FORK_HANDLERS, MAX_FRAMES, MAX_HANDLERS, may_register, mode_if, mode_number, nat_eq, nat_lt}
+use Rattle.pct_names.proofs.Names.{new_keys, next_handler, NextStatement, no_change, None, open_of, Operand, Option, Others, owns, Parent}
+use Rattle.pct_names.proofs.Names.{point_kind, Prepare, Required, sem_wait_point, SharedState, slice_index, Some, state_if, state_number}
+use Rattle.pct_names.proofs.Names.{StatementIn, Status, Stmt, stops, suc, testcancel_point, Thread, Transition, true, value_at, value_of}
+use Rattle.pct_names.proofs.Names.{variable_value, waitpid_point, waits_with_another_mutex, while_called, Why, ℕ, ◌∷◌, ◌≡◌, ◌≤◌, ◌⊎◌}
 use Rattle.pct_model.specs.declared.event.Caller.TheVariants as caller
 use Rattle.pct_model.specs.declared.event.What.TheVariants as what
 use Rattle.pct_model.specs.declared.process.Child.{Child}
@@ -77,7 +77,7 @@ module _ (passes : ℕ) (body : List Stmt) (shared : SharedState) (t : Thread) (
         → TransitionCase (StatementIn frame (statement.Create result id f v detached)) status.Running
         (record (creates_thread (suc frame.pc) (record { id = new; detached = detached; func = f; arg = value frame v }) (what.Created new detached ∷ [])) { writes = (result, 0) ∷ (id, new) ∷ [] })
     thread_not_made : (frame : Frame) (result id : Dest) (f : ℕ) (v : Operand) (detached : Bool)
-        → TransitionCase (StatementIn frame (statement.Create result id f v detached)) status.Running (record (goes_on (suc frame.pc) (what.Answer caller.Create 1 ∷ [])) { writes = (result, 1) ∷ [] })
+        → TransitionCase (StatementIn frame (statement.Create result id f v detached)) status.Running (record (goes_on (suc frame.pc) (what.Answer caller.Create EAGAIN ∷ [])) { writes = (result, EAGAIN) ∷ [] })
     join_begun : (frame : Frame) (id : Operand) (d : Dest) (target : Thread) → others.named (value frame id) ≡ Some target → nat_eq (value frame id) t.id ≡ false → target.detached ≡ false → others.another_joins (value frame id) ≡ false → (offered ≡ true → is_deliverable t.state t.pending ≡ false)
         → TransitionCase (StatementIn frame (statement.Join id d)) status.Running (record (acts (what.Called join_point ∷ [])) { own = Some (own_action.SetStatus (status.Joining (value frame id))) })
     join_ended : (frame : Frame) (operand : Operand) (d : Dest) (id v : ℕ) (target : Thread) → others.named id ≡ Some target → target.status ≡ status.Ended v
@@ -143,34 +143,34 @@ module _ (passes : ℕ) (body : List Stmt) (shared : SharedState) (t : Thread) (
     fork_registered : (frame : Frame) (result : Dest) (handlers : ForkHandlers) → length shared.fork_handlers < MAX_FORK_HANDLERS
         → TransitionCase (StatementIn frame (statement.AtFork result handlers.prepare handlers.parent handlers.child)) status.Running (record (goes_on (suc frame.pc) []) { writes = (result, 0) ∷ []; shared = Some (shared_action.AddForkHandlers handlers) })
     fork_not_registered : (frame : Frame) (result : Dest) (prepare parent child : Option ℕ)
-        → TransitionCase (StatementIn frame (statement.AtFork result prepare parent child)) status.Running (record (goes_on (suc frame.pc) (what.Answer caller.AtFork 2 ∷ [])) { writes = (result, 2) ∷ [] })
+        → TransitionCase (StatementIn frame (statement.AtFork result prepare parent child)) status.Running (record (goes_on (suc frame.pc) (what.Answer caller.AtFork ENOMEM ∷ [])) { writes = (result, ENOMEM) ∷ [] })
     fork_begun : (frame : Frame) (result child : Dest) → has_begun_to_end t.reason ≡ false
-        → TransitionCase (StatementIn frame (statement.Fork result child)) status.Running (record (acts []) { own = Some (own_action.SetStatus (in_fork (record { phase = Prepare; next = length shared.fork_handlers; length = length shared.fork_handlers; answer = 0 }))) })
+        → TransitionCase (StatementIn frame (statement.Fork result child)) status.Running (record (acts []) { own = Some (own_action.SetStatus (status.Forking (record { phase = Prepare; next = length shared.fork_handlers; length = length shared.fork_handlers; answer = 0 }))) })
     fork_handler_called : (next : NextStatement) (at : ForkAt) (call : HandlerCall) → next_handler shared.fork_handlers at ≡ Some call
-        → TransitionCase next (in_fork at) (record (acts (handler_event at.phase call.func ∷ [])) { own = Some (own_action.CallForkHandler (while_called at call.index) call.func) })
+        → TransitionCase next (status.Forking at) (record (acts (handler_event at.phase call.func ∷ [])) { own = Some (own_action.CallForkHandler (while_called at call.index) call.func) })
     fork_handler_left : (frame : Frame) (s : Stmt) (v : ℕ) (at : ForkAt) → Returns body shared.globals frame s v → frame.kind ≡ kind.ForkFn → t.kept ≡ Some at
-        → TransitionCase (StatementIn frame s) status.Running (record (acts []) { own = Some (own_action.Leave (in_fork at)) })
-    process_forked : (next : NextStatement) (index length answer new : ℕ) → others.family.new_pid ≡ Some new
-        → TransitionCase next (status.Forking Prepare index length answer) (record (acts (what.Forked new ∷ [])) { own = Some (own_action.SetStatus (in_fork (record { phase = Parent; next = 0; length = length; answer = new }))); process = Some (process_action.Make new) })
-    process_not_forked : (next : NextStatement) (index length answer : ℕ)
-        → TransitionCase next (status.Forking Prepare index length answer) (record (acts (what.Answer caller.Fork 1 ∷ [])) { own = Some (own_action.SetStatus (in_fork (record { phase = Parent; next = 0; length = length; answer = 0 }))) })
-    fork_failed : (frame : Frame) (result child : Dest) (index length pid : ℕ)
-        → TransitionCase (StatementIn frame (statement.Fork result child)) (status.Forking Parent index length pid) (record (goes_on (suc frame.pc) []) { writes = (result, 1) ∷ [] })
-    fork_returned : (frame : Frame) (result child : Dest) (phase : Phase) (index length pid value : ℕ)
-        → TransitionCase (StatementIn frame (statement.Fork result child)) (status.Forking phase index length pid) (record (goes_on (suc frame.pc) []) { writes = (result, 0) ∷ (child, value) ∷ [] })
+        → TransitionCase (StatementIn frame s) status.Running (record (acts []) { own = Some (own_action.Leave (status.Forking at)) })
+    process_forked : (next : NextStatement) (at : ForkAt) (new : ℕ) → at.phase ≡ Prepare → others.family.new_pid ≡ Some new
+        → TransitionCase next (status.Forking at) (record (acts (what.Forked new ∷ [])) { own = Some (own_action.SetStatus (status.Forking (record { phase = Parent; next = 0; length = at.length; answer = new }))); process = Some (process_action.Make new) })
+    process_not_forked : (next : NextStatement) (at : ForkAt) → at.phase ≡ Prepare
+        → TransitionCase next (status.Forking at) (record (acts (what.Answer caller.Fork EAGAIN ∷ [])) { own = Some (own_action.SetStatus (status.Forking (record { phase = Parent; next = 0; length = at.length; answer = 0 }))) })
+    fork_failed : (frame : Frame) (result child : Dest) (at : ForkAt) → at.phase ≡ Parent
+        → TransitionCase (StatementIn frame (statement.Fork result child)) (status.Forking at) (record (goes_on (suc frame.pc) []) { writes = (result, EAGAIN) ∷ [] })
+    fork_returned : (frame : Frame) (result child : Dest) (at : ForkAt) (value : ℕ)
+        → TransitionCase (StatementIn frame (statement.Fork result child)) (status.Forking at) (record (goes_on (suc frame.pc) []) { writes = (result, 0) ∷ (child, value) ∷ [] })
     waitpid_begun : (frame : Frame) (result d : Dest) (pid : Operand) → (offered ≡ true → is_deliverable t.state t.pending ≡ false)
         → TransitionCase (StatementIn frame (statement.WaitPid result pid d)) status.Running (record (acts (what.Called waitpid_point ∷ [])) { own = Some (own_action.SetStatus (status.InWaitPid (value frame pid))) })
     child_reaped : (frame : Frame) (result d : Dest) (operand : Operand) (pid n : ℕ) (child : Child) → others.family.child pid ≡ Some child → child.ended ≡ Some n
         → TransitionCase (StatementIn frame (statement.WaitPid result operand d)) (status.InWaitPid pid) (record (goes_on (suc frame.pc) (what.Reaped pid n ∷ [])) { writes = (result, 0) ∷ (d, n) ∷ []; process = Some (process_action.Reap pid) })
     no_child_found : (frame : Frame) (result d : Dest) (operand : Operand) → (offered ≡ true → is_deliverable t.state t.pending ≡ false)
-        → TransitionCase (StatementIn frame (statement.WaitPid result operand d)) status.Running (record (goes_on (suc frame.pc) (what.Answer caller.WaitPid 3 ∷ [])) { writes = (result, 3) ∷ [] })
+        → TransitionCase (StatementIn frame (statement.WaitPid result operand d)) status.Running (record (goes_on (suc frame.pc) (what.Answer caller.WaitPid ECHILD ∷ [])) { writes = (result, ECHILD) ∷ [] })
     child_lost : (frame : Frame) (result d : Dest) (operand : Operand) (pid : ℕ)
-        → TransitionCase (StatementIn frame (statement.WaitPid result operand d)) (status.InWaitPid pid) (record (goes_on (suc frame.pc) (what.Answer caller.WaitPid 3 ∷ [])) { writes = (result, 3) ∷ [] })
+        → TransitionCase (StatementIn frame (statement.WaitPid result operand d)) (status.InWaitPid pid) (record (goes_on (suc frame.pc) (what.Answer caller.WaitPid ECHILD ∷ [])) { writes = (result, ECHILD) ∷ [] })
     -- keys
     key_made : (frame : Frame) (result key : Dest) (destructor : Option ℕ) (k : ℕ) → (offered ≡ true → list_any (nat_eq k) (new_keys shared.keys) ≡ true)
         → TransitionCase (StatementIn frame (statement.KeyCreate result key destructor)) status.Running (record (goes_on (suc frame.pc) (what.KeyMade k ∷ [])) { writes = (result, 0) ∷ (key, k) ∷ []; shared = Some (shared_action.MakeKey k destructor) })
     key_not_made : (frame : Frame) (result key : Dest) (destructor : Option ℕ)
-        → TransitionCase (StatementIn frame (statement.KeyCreate result key destructor)) status.Running (record (goes_on (suc frame.pc) (what.Answer caller.KeyCreate 1 ∷ [])) { writes = (result, 1) ∷ [] })
+        → TransitionCase (StatementIn frame (statement.KeyCreate result key destructor)) status.Running (record (goes_on (suc frame.pc) (what.Answer caller.KeyCreate EAGAIN ∷ [])) { writes = (result, EAGAIN) ∷ [] })
     key_deleted : (frame : Frame) (key : Operand) → is_none (key_with (value frame key) shared.keys) ≡ false
         → TransitionCase (StatementIn frame (statement.KeyDelete key)) status.Running (record (goes_on (suc frame.pc) (what.KeyGone (value frame key) ∷ [])) { shared = Some (shared_action.DeleteKey (value frame key)); named = Some (named_action.ForgetKey (value frame key)) })
     specific_set : (frame : Frame) (key v : Operand) → is_none (key_with (value frame key) shared.keys) ≡ false

@@ -292,7 +292,7 @@ pub(crate) fn choices_at(context: &Context) -> Choices
         Status::Waiting(_, _) => go_or_act(false, cancel.deliverable()),
         Status::Reacquire(cond, mutex, cause) => unblocked_choices(context, cond, mutex, cause),
         Status::Ending => ending_choices(context),
-        Status::Forking(_, _, _, _) => Choices::Go,
+        Status::Forking(_) => Choices::Go,
         Status::Exiting => Choices::Go,
         _ => Choices::None,
     }

@@ -5,7 +5,7 @@ ghost use Rattle.std.specs.List.{range_with_len};
 ghost use Rattle.pct_model.specs.declared.limits.TheConstants.{MAX_FORK_HANDLERS};
 ghost use Rattle.pct_model.specs.declared.state.ForkAt.{ForkAt as ForkValues};
 ghost use Rattle.pct_model.specs.declared.state.Phase.TheVariants as phases;
-ghost use Rattle.pct_model.specs.ForkCalls.{in_fork, handler_for, handler_at, handlers_among, next_handler, while_called, handler_event, calls_handler, registers_fork, begins_fork, forks_by, goes_on_after_handlers, goes_on_forking, leaves_handler, finds_no_child, begins_waitpid, reaps, waits_at};
+ghost use Rattle.pct_model.specs.ForkCalls.{handler_for, handler_at, handlers_among, next_handler, while_called, handler_event, calls_handler, registers_fork, begins_fork, forks_by, goes_on_after_handlers, goes_on_forking, leaves_handler, finds_no_child, begins_waitpid, reaps, waits_at};
 ghost use Rattle.pct_model.specs.NextStatement.{StatementIn};
 ghost use Rattle.pct_model.specs.OtherThreads.{Others};
 ghost use Rattle.pct_transitions.specs.Contexts.{IsWhole, SeesOthers};
@@ -15,8 +15,9 @@ use crate::context::Context;
 use crate::current::{At, next_pc};
 use crate::transitions::{acts, fails, goes_on, leaves, no_change};
 use pct_model::{
-    Caller, Dest, ForkAt, ForkHandlers, HandlerCall, MAX_FORK_HANDLERS, OwnAction, Phase,
-    ProcessAction, SharedAction, Status, Stmt, Transition, UpToThree, WAITPID_POINT, What,
+    Caller, Dest, EAGAIN, ECHILD, ENOMEM, ForkAt, ForkHandlers, HandlerCall, MAX_FORK_HANDLERS,
+    OwnAction, Phase, ProcessAction, SharedAction, Status, Stmt, Transition, UpToThree,
+    WAITPID_POINT, What,
 };
 use pct_process::ForkRegistrations;
 
@@ -29,7 +30,7 @@ pub(crate) struct AtForkCall {
     pub handlers: ForkHandlers,
 }
 
-/// pthread_atfork, in a process with these registrations: the result is 0, or ENOMEM, which is 2 in this host, past its limit.
+/// pthread_atfork, in a process with these registrations: the result is 0, or ENOMEM past the limit of this host.
 #[tactic(auto, unfolding(pct_model::specs::ForkCalls::registers_fork))]
 #[inline(never)]
 pub(crate) fn registers_fork(
@@ -47,7 +48,7 @@ pub(crate) fn registers_fork(
             ..goes_on(next, UpToThree::none())
         };
     } else {
-        *transition = fails(next, call.answer, Caller::AtFork, 2);
+        *transition = fails(next, call.answer, Caller::AtFork, ENOMEM);
     }
 }
 
@@ -153,15 +154,8 @@ pub(crate) fn leaves_handler(kept: Option<ForkAt>) -> Transition
 {
     match kept {
         None => no_change(),
-        Some(at) => leaves(in_fork(at)),
+        Some(at) => leaves(Status::Forking(at)),
     }
-}
-
-// The status of a thread in fork, with these values.
-fn in_fork(at: ForkAt) -> Status
-    ensures { result ≡ in_fork at }
-{
-    Status::Forking(at.phase, at.next, at.length, at.answer)
 }
 
 // ---- fork
@@ -180,7 +174,7 @@ pub(crate) fn begins_fork(registered: &ForkRegistrations, transition: &mut Trans
         answer: 0,
     };
     *transition = Transition {
-        own: Some(OwnAction::SetStatus(in_fork(at))),
+        own: Some(OwnAction::SetStatus(Status::Forking(at))),
         ..acts(UpToThree::none())
     };
 }
@@ -218,15 +212,15 @@ fn forks_by(length: u32, new_pid: Option<u32>) -> Transition
 {
     match new_pid {
         Some(pid) => Transition {
-            own: Some(OwnAction::SetStatus(in_fork(after_fork(length, pid)))),
+            own: Some(OwnAction::SetStatus(Status::Forking(after_fork(length, pid)))),
             process: Some(ProcessAction::Make(pid)),
             ..acts(UpToThree::one(What::Forked(pid)))
         },
         None => Transition {
-            own: Some(OwnAction::SetStatus(in_fork(after_fork(length, 0)))),
+            own: Some(OwnAction::SetStatus(Status::Forking(after_fork(length, 0)))),
             ..acts(UpToThree::one(What::Answer {
                 call: Caller::Fork,
-                number: 1,
+                number: EAGAIN,
             }))
         },
     }
@@ -245,7 +239,7 @@ fn after_fork(length: u32, answer: u32) -> ForkAt
 }
 
 // fork returns in the process that called it, at a statement of the top frame: the result is 0, and the id of the child is written. If
-// no child was made, the result is EAGAIN, which is 1 in this host, and no id is written.
+// no child was made, the result is EAGAIN, and no id is written.
 #[tactic(auto, using(crate::proofs::Bodies::pc_within), unfolding(pct_model::specs::ForkCalls::returns_in_parent))]
 #[inline(always)]
 fn returns_in_parent(context: &Context, at: &At, pid: u32) -> Transition
@@ -260,7 +254,7 @@ fn returns_in_parent(context: &Context, at: &At, pid: u32) -> Transition
             let next = next_pc(at.frame);
             if pid == 0 {
                 Transition {
-                    writes: UpToThree::one((*answer, 1)),
+                    writes: UpToThree::one((*answer, EAGAIN)),
                     ..goes_on(next, UpToThree::none())
                 }
             } else {
@@ -310,12 +304,12 @@ pub(crate) fn begins_waitpid(context: &Context, next: u32, pid: u32, answer: Des
     }
 }
 
-// There is no such child: the result is ECHILD, which is 3 in this host.
+// There is no such child: the result is ECHILD.
 #[tactic(auto, unfolding(pct_model::specs::ForkCalls::finds_no_child))]
 fn finds_no_child(next: u32, answer: Dest) -> Transition
     ensures { result ≡ finds_no_child next answer }
 {
-    fails(next, answer, Caller::WaitPid, 3)
+    fails(next, answer, Caller::WaitPid, ECHILD)
 }
 
 /// A thread that is suspended in waitpid for the process with an id goes on: it reaps the child, which has ended, and returns. If

@@ -6,7 +6,7 @@ ghost use Rattle.pct_model.specs.KeyCalls.{creates_key, fails_to_create_key, cre
 
 use crate::transitions::{fails, goes_on, no_change};
 use pct_model::{
-    Alt, Caller, Dest, NamedAction, OwnAction, SharedAction, Transition, UpToThree, What,
+    Alt, Caller, Dest, EAGAIN, NamedAction, OwnAction, SharedAction, Transition, UpToThree, What,
 };
 
 // ---- pthread_key_create
@@ -50,12 +50,12 @@ fn creates_key(call: &KeyCreateCall, next: u32, number: u32) -> Transition
     }
 }
 
-// No place is free: the result is EAGAIN, which is 1 in this host, and the key is not written.
+// No place is free: the result is EAGAIN, and the key is not written.
 #[tactic(auto, unfolding(pct_model::specs::KeyCalls::fails_to_create_key))]
 fn fails_to_create_key(next: u32, answer: Dest) -> Transition
     ensures { result ≡ fails_to_create_key next answer }
 {
-    fails(next, answer, Caller::KeyCreate, 1)
+    fails(next, answer, Caller::KeyCreate, EAGAIN)
 }
 
 // ---- pthread_key_delete, pthread_setspecific, pthread_getspecific

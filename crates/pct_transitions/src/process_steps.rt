@@ -40,7 +40,7 @@ pub fn has_choice(around: Surroundings, process: &ProcessState, slot: u32) -> bo
         Status::InWaitPid(pid) => {
             goes_or_acts(!has_running_child(around.family, pid), &thread.cancel)
         }
-        Status::Ending | Status::Forking(_, _, _, _) | Status::Exiting => true,
+        Status::Ending | Status::Forking(_) | Status::Exiting => true,
         Status::Ended(_) => false,
     }
 }

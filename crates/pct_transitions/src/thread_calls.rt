@@ -12,8 +12,8 @@ use crate::context::Context;
 use crate::current::{At, next_pc};
 use crate::transitions::{acts, fails, goes_on, no_change};
 use pct_model::{
-    Alt, Caller, Dest, JOIN_POINT, NamedAction, NewThread, OwnAction, Status, Stmt, Transition,
-    UpToThree, What,
+    Alt, Caller, Dest, EAGAIN, JOIN_POINT, NamedAction, NewThread, OwnAction, Status, Stmt,
+    Transition, UpToThree, What,
 };
 
 // ---- pthread_create
@@ -61,12 +61,12 @@ fn creates(call: &CreateCall, next: u32, id: u32) -> Transition
     }
 }
 
-// No slot is free: the result is EAGAIN, which is 1 in this host, and the id is not written.
+// No slot is free: the result is EAGAIN, and the id is not written.
 #[tactic(auto, unfolding(pct_model::specs::ThreadCalls::fails_to_create))]
 fn fails_to_create(next: u32, answer: Dest) -> Transition
     ensures { result ≡ fails_to_create next answer }
 {
-    fails(next, answer, Caller::Create, 1)
+    fails(next, answer, Caller::Create, EAGAIN)
 }
 
 // ---- pthread_join

@@ -15,7 +15,9 @@ ghost use Rattle.pct_transitions.specs.Positions.{HasRow, IsPosition};
 use crate::context::Context;
 use crate::position::Position;
 use crate::transitions::{acts, no_change};
-use pct_model::{Alt, OwnAction, Reason, SharedAction, Transition, UpToThree, What};
+use pct_model::{
+    Alt, OwnAction, PTHREAD_CANCELED, Reason, SharedAction, Transition, UpToThree, What,
+};
 
 /// pthread_exit with a value, or a return from a start routine, which acts as pthread_exit (XSH pthread_create): the thread
 /// begins to end.
@@ -176,13 +178,13 @@ fn last_events(left: u32, value: u32) -> UpToThree<What>
     }
 }
 
-// The exit value of a thread, by the reason for its end: PTHREAD_CANCELED is 4294967295 in this host.
+// The exit value of a thread, by the reason for its end.
 fn end_value(reason: Reason) -> u32
     ensures { result ≡ end_value reason }
 {
     match reason {
         Reason::None => 0,
         Reason::Exit(value) => value,
-        Reason::Canceled => 4294967295,
+        Reason::Canceled => PTHREAD_CANCELED,
     }
 }

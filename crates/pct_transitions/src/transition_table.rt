@@ -37,7 +37,7 @@ use crate::thread_calls::{CreateCall, begins_join, creates_by, detaches, gets_se
 use crate::thread_ends::{ends_by_exit, goes_on_ending};
 use crate::transitions::{no_change, stops};
 use pct_keys::key_place;
-use pct_model::{Alt, ForkAt, ForkHandlers, Status, Stmt, Transition};
+use pct_model::{Alt, ForkHandlers, Status, Stmt, Transition};
 
 /// Writes to `transition` what a thread in this context does by a choice. By `act` it acts upon a request. By every other choice it
 /// goes on: a running thread stops the run, or makes the transition of its next statement; one that is suspended at a cancellation
@@ -80,15 +80,7 @@ fn transition_at(context: &Context, choice: Alt, transition: &mut Transition)
             reacquires(context, cond, mutex, cause, transition);
         }
         Status::Ending => goes_on_ending(context, passes, choice, transition),
-        Status::Forking(phase, next, length, answer) => {
-            let at = ForkAt {
-                phase,
-                next,
-                length,
-                answer,
-            };
-            goes_on_forking(context, &at, transition);
-        }
+        Status::Forking(at) => goes_on_forking(context, &at, transition),
         Status::Exiting => {
             goes_on_exiting(context.exit_functions, context.exit_value, transition);
         }

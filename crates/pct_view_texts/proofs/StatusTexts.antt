@@ -29,6 +29,6 @@ before_comma_if_not_running script (status.InWaitPid pid) not = refl
 before_comma_if_not_running script (status.Waiting c m) not = refl
 before_comma_if_not_running script (status.Reacquire c m why) not = refl
 before_comma_if_not_running script status.Ending not = refl
-before_comma_if_not_running script (status.Forking at next length answer) not = refl
+before_comma_if_not_running script (status.Forking at) not = refl
 before_comma_if_not_running script status.Exiting not = refl
 before_comma_if_not_running script (status.Ended v) not = refl

@@ -38,7 +38,7 @@ pub(crate) fn push_status(
             push_cause(text, why)
         }
         Status::Ending => text.push(Keyword::Ending.text()),
-        Status::Forking(phase, _, _, _) => push_forking(text, phase),
+        Status::Forking(at) => push_forking(text, at.phase),
         Status::Exiting => text.push(b"exiting"),
         Status::Ended(value) => text.push_words(&[word(Keyword::Ended), Field::Number(value)]),
     }

@@ -42,7 +42,7 @@ pub(crate) fn wait_on(around: Surroundings, state: &ProcessState, slot: u32) -> 
         }
         Status::Waiting(cond, _) => Some(Wait::Condition(cond)),
         Status::Reacquire(_, mutex, _) => mutex_wait(state, mutex),
-        Status::Ending | Status::Forking(_, _, _, _) | Status::Exiting | Status::Ended(_) => None,
+        Status::Ending | Status::Forking(_) | Status::Exiting | Status::Ended(_) => None,
     }
 }
 

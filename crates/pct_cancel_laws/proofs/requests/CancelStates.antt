@@ -133,8 +133,8 @@ module _ (script : Script) (config : Config) where
               subst (FitsAny script config.passes (moved o t)) (summary_after (reverse o.events) k) (rule.kept w p t k.summary choice known offered is.0),
               case_kept config.passes (body_at script t.frames) p.shared t others true k (case_of config.passes (body_at script t.frames) p.shared t others true choice (next_of script t.frames) t.status (λ known. offered)) is.1,
             );
-        replica = λ w p t k index count answer known forks is.
-            (rule.replica w p t k.summary index count answer known forks is.0, λ alive. is.1 (forks_alive t k (ap is_forking forks) is.0));
+        replica = λ w p t k at known forks is.
+            (rule.replica w p t k.summary at known forks is.0, λ alive. is.1 (forks_alive t k (ap is_forking forks) is.0));
       }
 
   -- after every run, a thread that has neither begun to end nor begun to exit its process has the state and the type that are reported

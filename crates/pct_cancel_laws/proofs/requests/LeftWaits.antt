@@ -75,7 +75,7 @@ module _ (script : Script) (config : Config) where
     kept = λ w p t k choice known offered has.
         let others : Others = others_of config.slots w p t.id in
         case_has config.passes (body_at script t.frames) p.shared t others (case_of config.passes (body_at script t.frames) p.shared t others true choice (next_of script t.frames) t.status (λ known. offered)) has;
-    replica = λ w p t k index count answer known forks has left. absurd (false≢true (sym (ap (λ (s : Status). has_left_wait (in_child s)) forks) ∙ left));
+    replica = λ w p t k at known forks has left. absurd (false≢true (sym (ap (λ (s : Status). has_left_wait (in_child s)) forks) ∙ left));
   }
 
   -- after every run, a thread that left its wait by a request has the request, and may act upon it

@@ -1,7 +1,7 @@
 -- A transition of a thread, and the condition wait of the thread: its events follow in the wait, and the wait is unfinished after it exactly
 -- if the thread is in it then.
 use Rattle.pct_names.proofs.Names.{◌&&◌, [], acts, Alt, and_from, and_parts, ap, ap₂, body_at, Bool, Cause, cond, Config, false, false≢true}
-use Rattle.pct_names.proofs.Names.{Frame, has_left_wait, in_fork, is_live_thread, is_waiting_on, List, moved, named_after, NamedAction}
+use Rattle.pct_names.proofs.Names.{Frame, has_left_wait, is_live_thread, is_waiting_on, List, moved, named_after, NamedAction}
 use Rattle.pct_names.proofs.Names.{nat_eq, next_of, NextStatement, not, Option, Others, others_of, own_after, Process, refl, reverse}
 use Rattle.pct_names.proofs.Names.{Script, SharedState, Some, Status, Stmt, subst, subst₂, sym, Thread, thread_at, Transition}
 use Rattle.pct_names.proofs.Names.{transition_by, true, unblocked, What, while_called, World, ◌||◌, ℕ, ◌∙◌, ◌∷◌, ◌≡◌}
@@ -100,8 +100,8 @@ module _ (script : Script) (passes : ℕ) (shared : SharedState) (t : Thread) (o
       at_stage (own (status.Reacquire c m cause.Signalled) frames) _ (InWait m) is (record { own = ap (λ (same : Bool). is_leaving c m (cond same (LeavingSignal c m) NoWait)) (eq-eqb c c refl) ∙ same_pair c m; lawful = ap (λ (same : Bool). same && true) (eq-eqb c c refl) })
   case_keeps k place (ended_in_wait next c m free) is = record { own = wait_is_over c m k is; lawful = ends_wait c m k is }
   case_keeps {frames} k place (fork_handler_called next at call handler) is =
-      let keeps : (w : What) → Type 0 = λ w. KeepsWait (own (in_fork at) frames) NoWait (record (acts (w ∷ [])) { own = Some (own_action.CallForkHandler (while_called at call.index) call.func) }) in
-      at_stage (own (in_fork at) frames) _ NoWait is (of_each_phase keeps call.func (record { own = refl; lawful = refl }) (record { own = refl; lawful = refl }) (record { own = refl; lawful = refl }) at.phase)
+      let keeps : (w : What) → Type 0 = λ w. KeepsWait (own (status.Forking at) frames) NoWait (record (acts (w ∷ [])) { own = Some (own_action.CallForkHandler (while_called at call.index) call.func) }) in
+      at_stage (own (status.Forking at) frames) _ NoWait is (of_each_phase keeps call.func (record { own = refl; lawful = refl }) (record { own = refl; lawful = refl }) (record { own = refl; lawful = refl }) at.phase)
   case_keeps {frames} {s = s} {o = o} k place _ is = at_stage (own s frames) o NoWait is (record { own = refl; lawful = refl })
 
 -- a transition of a thread, by any choice

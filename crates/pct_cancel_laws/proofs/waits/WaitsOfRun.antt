@@ -28,7 +28,7 @@ module _ (script : Script) (config : Config) where
     created = λ w p t k choice new nothing offered is makes. refl;
     named = named_keeps_wait;
     kept = λ w p t k choice nothing offered is. (transition_keeps script config w p t k choice is).own;
-    replica = λ w p t k index count answer nothing forks is. subst (λ (s : Status). WaitKept (in_child s) NoWait) (sym forks) refl;
+    replica = λ w p t k at nothing forks is. subst (λ (s : Status). WaitKept (in_child s) NoWait) (sym forks) refl;
   }
 
   -- ---- runs

@@ -27,8 +27,8 @@ module _ (passes : ℕ) (body : List Stmt) (shared : SharedState) (t : Thread) (
   case_given : {next : NextStatement} {s : Status} {o : Transition} → TransitionCase passes body shared t others true next s o → (n : ℕ)
       → answer_in o.events ≡ Some n → fork_answer (moved o (with s)) ≡ Some n
   unfolding own_after thread_at
-  case_given (process_forked next index length answer new is) n said = said
-  case_given (process_not_forked next index length answer) n said = said
+  case_given (process_forked next at new prepares is) n said = said
+  case_given (process_not_forked next at prepares) n said = said
   case_given (fork_handler_called next at call is) n said =
       absurd (none-some n (sym (of_each_phase (λ (w : What). answer_in (w ∷ []) ≡ None) call.func refl refl refl at.phase) ∙ said))
   case_given _ n said = absurd (none-some n said)
@@ -42,11 +42,11 @@ module _ (passes : ℕ) (body : List Stmt) (shared : SharedState) (t : Thread) (
       → HasNone s t.kept → answer_in o.events ≡ None → calls_fork next s ≡ false → Stays o s
   unfolding own_after thread_at
   case_stays (fork_begun frame result child unbegun) none quiet other = absurd (true≢false other)
-  case_stays (process_forked next index length answer new is) none quiet other = absurd (none-some new (sym quiet))
-  case_stays (process_not_forked next index length answer) none quiet other = absurd (none-some 0 (sym quiet))
-  case_stays (fork_failed frame result child index length pid) none quiet other =
+  case_stays (process_forked next at new prepares is) none quiet other = absurd (none-some new (sym quiet))
+  case_stays (process_not_forked next at prepares) none quiet other = absurd (none-some 0 (sym quiet))
+  case_stays (fork_failed frame result child at returns) none quiet other =
       record { leaves = true; is = ap (option_map (λ (at : ForkAt). at.answer)) none }
-  case_stays (fork_returned frame result child phase index length pid value) none quiet other =
+  case_stays (fork_returned frame result child at value) none quiet other =
       record { leaves = true; is = ap (option_map (λ (at : ForkAt). at.answer)) none }
   case_stays (fork_handler_left frame s v at returns is kept) none quiet other =
       record { leaves = false; is = sym (ap (option_map (λ (x : ForkAt). x.answer)) kept) }

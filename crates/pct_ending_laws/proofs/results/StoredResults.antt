@@ -21,7 +21,7 @@ use Rattle.pct_model.specs.declared.statement.Stmt.TheVariants as statement
 use Rattle.pct_model.specs.declared.transition.OwnAction.TheVariants as own_action
 use Rattle.pct_model.specs.LineParsing.{is_empty}
 use Rattle.pct_laws.specs.CancelLaw.{acts_or_stops}
-use Rattle.pct_laws.specs.ResultLaw.{all_locals, left_of, Store, stored_at, stored_by, stored, after_stores, local_on_top, StoresResults}
+use Rattle.pct_laws.specs.ResultLaw.{all_locals, left_of, Store, stored_at, stored_by_fork, stored_by, stored, after_stores, local_on_top, StoresResults}
 use Rattle.pct_transition_cases.proofs.TransitionCases.{TransitionCase, Leads, Returns, past_if, by_return, by_end, rests, jumped}
 use Rattle.pct_transition_cases.proofs.TransitionCases.{main_returned, start_returned, call_left, handler_left, exit_function_left}
 use Rattle.pct_transition_cases.proofs.TransitionCases.{fork_handler_called, fork_handler_left, fork_failed, fork_returned}
@@ -145,7 +145,7 @@ module _ (passes : ℕ) (body : List Stmt) (shared : SharedState) (t : Thread) (
   does_nothing choice (StatementIn frame _) (status.Joining target) other is = refl
   does_nothing choice (StatementIn frame (statement.WaitPid result pid d)) (status.InWaitPid child) other is = refl
   does_nothing choice (StatementIn frame _) (status.InWaitPid child) other is = refl
-  does_nothing choice (StatementIn frame st) (status.Forking phase index length answer) other is = absurd (true≢false other)
+  does_nothing choice (StatementIn frame st) (status.Forking at) other is = absurd (true≢false other)
   does_nothing choice (StatementIn frame st) _ other is = refl
 
   -- ---- a thread that is not in fork
@@ -173,62 +173,67 @@ module _ (passes : ℕ) (body : List Stmt) (shared : SharedState) (t : Thread) (
   case_stores next (exit_function_left frame s v returns is) other nothing = sym (returns_nothing returns [])
   case_stores next (fork_handler_left frame s v at returns is kept) other nothing = sym (returns_nothing returns [])
   case_stores next (fork_handler_called _ at call is) other nothing = absurd (true≢false other)
-  case_stores next (fork_failed frame result child index length pid) other nothing = absurd (true≢false other)
-  case_stores next (fork_returned frame result child phase index length pid value) other nothing = absurd (true≢false other)
+  case_stores next (process_forked _ at new prepares is) other nothing = absurd (true≢false other)
+  case_stores next (process_not_forked _ at prepares) other nothing = absurd (true≢false other)
+  case_stores next (fork_failed frame result child at returns) other nothing = absurd (true≢false other)
+  case_stores next (fork_returned frame result child at value) other nothing = absurd (true≢false other)
   case_stores (StatementIn frame s) _ other nothing = refl
 
   -- ---- a thread in fork
 
   -- the table has nothing for one event
-  with_event : (phase : Phase) (index length answer : ℕ) (w : What) (next : NextStatement)
-      → ◌≡◌ {A = List Store} [] (cond (acts_or_stops (w ∷ [])) [] (stored_by shared t next (status.Forking phase index length answer) (w ∷ [])))
-  with_event phase index length answer w next =
-      sym (cond_both (acts_or_stops (w ∷ [])) [] _ (λ (stores : List Store). stores ≡ []) (λ acts. refl) (λ acts. by_statement phase next))
+  with_event : (at : ForkAt) (w : What) (next : NextStatement)
+      → ◌≡◌ {A = List Store} [] (cond (acts_or_stops (w ∷ [])) [] (stored_by shared t next (status.Forking at) (w ∷ [])))
+  with_event at w next =
+      sym (cond_both (acts_or_stops (w ∷ [])) [] _ (λ (stores : List Store). stores ≡ []) (λ acts. refl) (λ acts. by_statement next))
     where
-      by_statement : (phase : Phase) (next : NextStatement) → stored_by shared t next (status.Forking phase index length answer) (w ∷ []) ≡ []
-      by_statement phase NoStatement = refl
-      by_statement Prepare (StatementIn frame s) = refl
-      by_statement Parent (StatementIn frame (statement.Fork result child)) = refl
-      by_statement Parent (StatementIn frame _) = refl
-      by_statement ChildPhase (StatementIn frame (statement.Fork result child)) = refl
-      by_statement ChildPhase (StatementIn frame _) = refl
+      by_statement : (next : NextStatement) → stored_by shared t next (status.Forking at) (w ∷ []) ≡ []
+      by_statement NoStatement = refl
+      by_statement (StatementIn frame (statement.Fork result child)) = refl
+      by_statement (StatementIn frame _) = refl
 
-  returned_in_parent : (frame : Frame) (result child : Dest) (index length pid : ℕ)
-      → StoresIts (StatementIn frame (statement.Fork result child)) (status.Forking Parent index length pid) (returns_in_parent pid (suc frame.pc) result child)
+  returned_in_parent : (frame : Frame) (result child : Dest) (at : ForkAt) → at.phase ≡ Parent
+      → StoresIts (StatementIn frame (statement.Fork result child)) (status.Forking at) (returns_in_parent at.answer (suc frame.pc) result child)
   unfolding returns_in_parent
-  returned_in_parent frame result child index length pid = by_pid (nat_eq pid 0) refl
+  returned_in_parent frame result child at returns = by_pid (nat_eq at.answer 0) refl
     where
-      by_pid : (failed : Bool) → nat_eq pid 0 ≡ failed
-          → StoresIts (StatementIn frame (statement.Fork result child)) (status.Forking Parent index length pid) (cond failed (record (goes_on (suc frame.pc) []) { writes = (result, 1) ∷ [] }) (record (goes_on (suc frame.pc) []) { writes = (result, 0) ∷ (child, pid) ∷ [] }))
-      by_pid true is = sym (ap (λ (b : Bool). cond b ((result, 1) ∷ []) ((result, 0) ∷ (child, pid) ∷ [])) is)
-      by_pid false is = sym (ap (λ (b : Bool). cond b ((result, 1) ∷ []) ((result, 0) ∷ (child, pid) ∷ [])) is)
+      stores : (failed : Bool) → nat_eq at.answer 0 ≡ failed → cond failed ((result, EAGAIN) ∷ []) ((result, 0) ∷ (child, at.answer) ∷ []) ≡ stored_by_fork at.phase at.answer result child
+      stores failed is =
+          sym (ap (λ (phase : Phase). stored_by_fork phase at.answer result child) returns ∙ ap (λ (b : Bool). cond b ((result, EAGAIN) ∷ []) ((result, 0) ∷ (child, at.answer) ∷ [])) is)
 
-  forking : (found : Option HandlerCall) (phase : Phase) (index length answer : ℕ) (new : Option ℕ) (next : NextStatement)
-      → StoresIts next (status.Forking phase index length answer) (goes_on_forking found (record { phase = phase; next = index; length = length; answer = answer }) new next)
-  unfolding calls_handler forks_by returns_in_child
-  forking (Some call) phase index length answer new next = with_event phase index length answer (handler_event phase call.func) next
-  forking None Prepare index length answer (Some pid) next = with_event Prepare index length answer (what.Forked pid) next
-  forking None Prepare index length answer None next = with_event Prepare index length answer (what.Answer caller.Fork 1) next
-  forking None Parent index length answer new NoStatement = refl
-  forking None Parent index length answer new (StatementIn frame (statement.Fork result child)) =
-      returned_in_parent frame result child index length answer
-  forking None Parent index length answer new (StatementIn frame _) = refl
-  forking None ChildPhase index length answer new NoStatement = refl
-  forking None ChildPhase index length answer new (StatementIn frame (statement.Fork result child)) = refl
-  forking None ChildPhase index length answer new (StatementIn frame _) = refl
+      by_pid : (failed : Bool) → nat_eq at.answer 0 ≡ failed
+          → StoresIts (StatementIn frame (statement.Fork result child)) (status.Forking at) (cond failed (record (goes_on (suc frame.pc) []) { writes = (result, EAGAIN) ∷ [] }) (record (goes_on (suc frame.pc) []) { writes = (result, 0) ∷ (child, at.answer) ∷ [] }))
+      by_pid true is = stores true is
+      by_pid false is = stores false is
 
-  in_fork : (choice : Alt) (phase : Phase) (index length answer : ℕ) (next : NextStatement)
-      → offers (choices_at body shared t others next (status.Forking phase index length answer)) choice ≡ true
-      → StoresIts next (status.Forking phase index length answer) (does choice next (status.Forking phase index length answer))
+  -- no handler of the phase is left
+  after_handlers : (phase : Phase) (at : ForkAt) → at.phase ≡ phase → (new : Option ℕ) (next : NextStatement)
+      → StoresIts next (status.Forking at) (goes_on_after_handlers phase at new next)
+  unfolding forks_by returns_in_child
+  after_handlers Prepare at is (Some pid) next = with_event at (what.Forked pid) next
+  after_handlers Prepare at is None next = with_event at (what.Answer caller.Fork EAGAIN) next
+  after_handlers Parent at is new (StatementIn frame (statement.Fork result child)) = returned_in_parent frame result child at is
+  after_handlers ChildPhase at is new (StatementIn frame (statement.Fork result child)) = sym (ap (λ (phase : Phase). stored_by_fork phase at.answer result child) is)
+  after_handlers Parent at is new NoStatement = refl
+  after_handlers Parent at is new (StatementIn frame _) = refl
+  after_handlers ChildPhase at is new NoStatement = refl
+  after_handlers ChildPhase at is new (StatementIn frame _) = refl
+
+  forking : (found : Option HandlerCall) (at : ForkAt) (new : Option ℕ) (next : NextStatement) → StoresIts next (status.Forking at) (goes_on_forking found at new next)
+  unfolding calls_handler
+  forking (Some call) at new next = with_event at (handler_event at.phase call.func) next
+  forking None at new next = after_handlers at.phase at refl new next
+
+  in_fork : (choice : Alt) (at : ForkAt) (next : NextStatement) → offers (choices_at body shared t others next (status.Forking at)) choice ≡ true
+      → StoresIts next (status.Forking at) (does choice next (status.Forking at))
   unfolding transition_at choices_at
-  in_fork (alt.Act n) phase index length answer next offered = absurd (false≢true offered)
-  in_fork _ phase index length answer NoStatement offered = forking _ phase index length answer others.family.new_pid NoStatement
-  in_fork _ phase index length answer (StatementIn frame s) offered =
-      forking _ phase index length answer others.family.new_pid (StatementIn frame s)
+  in_fork (alt.Act n) at next offered = absurd (false≢true offered)
+  in_fork _ at NoStatement offered = forking _ at others.family.new_pid NoStatement
+  in_fork _ at (StatementIn frame s) offered = forking _ at others.family.new_pid (StatementIn frame s)
 
   stores_its : (choice : Alt) (next : NextStatement) (s : Status) → offers (choices_at body shared t others next s) choice ≡ true
       → TransitionCase passes body shared t others true next s (does choice next s) → StoresIts next s (does choice next s)
-  stores_its choice next (status.Forking phase index length answer) offered case = in_fork choice phase index length answer next offered
+  stores_its choice next (status.Forking at) offered case = in_fork choice at next offered
   stores_its choice next s offered case = case_stores next case refl (does_nothing choice next s refl)
 
   -- ---- what is stored, and where

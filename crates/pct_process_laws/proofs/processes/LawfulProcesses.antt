@@ -79,7 +79,7 @@ module _ (passes : ℕ) (body : List Stmt) (shared : SharedState) (t : Thread) (
   case_changes (last_ended_with_keys next n no_handlers is_last some limit due left) ready law =
       let k : Option ℕ = exit_value e.pid earlier in
       and_from _ _ (ap (λ (k : Option ℕ). is_none k) (kept_value (nat_eq e.pid e.pid) (cond (nat_eq e.pid e.pid) k k) ∙ kept_value (nat_eq e.pid e.pid) k) ∙ not_exited ready (ready.last is_last refl)) law
-  case_changes (process_forked next index count answer new is) ready law = and_from _ _ (ready.forks new is) law
+  case_changes (process_forked next at new prepares is) ready law = and_from _ _ (ready.forks new is) law
   case_changes (join_ended frame operand d id v target is ended) ready law = and_from _ _ (ready.joins id v target refl is) law
   case_changes (child_reaped frame result d operand pid n child is ended) ready law = and_from _ _ (ready.reaps pid n child is ended) law
   case_changes (process_ended_now frame v) ready law =

@@ -12,7 +12,7 @@ use Rattle.pct_thread_invariants.proofs.lift.ThreadIds.{ids_of}
 
 -- if a thread is the one with an id, its replica begins in the child phase of a fork with this many registrations
 abbrev ForksIfIt : ℕ → ℕ → Thread → Type 0
-ForksIfIt tid count u = is_live_thread tid u ≡ true → in_child u.status ≡ Forking Child 0 count 0
+ForksIfIt tid count u = is_live_thread tid u ≡ true → in_child u.status ≡ Forking (record { phase = Child; next = 0; length = count; answer = 0 })
 
 module _ (tid count new : ℕ) where
   abbrev o : Transition
@@ -46,7 +46,7 @@ module _ (tid count new : ℕ) where
       (λ live. absurd (false≢true (sym parts.0 ∙ (and_parts (nat_eq u.id tid) (holds_slot u) live).0)), none_forks threads parts.1)
 
   -- where no two threads have one id, and the one that has the id is in fork
-  one_forks : (t : Thread) → in_child t.status ≡ Forking Child 0 count 0 → (threads : List Thread) → AreDistinct (ids_of threads) → with_id tid threads ≡ Some t → AllByRecursion (ForksIfIt tid count) threads
+  one_forks : (t : Thread) → in_child t.status ≡ Forking (record { phase = Child; next = 0; length = count; answer = 0 }) → (threads : List Thread) → AreDistinct (ids_of threads) → with_id tid threads ≡ Some t → AllByRecursion (ForksIfIt tid count) threads
   one_forks t forks [] distinct is = absurd (none-some t is)
   one_forks t forks (u ∷ threads) distinct is = by_live (is_live_thread tid u) refl (one_forks t forks threads distinct.1) is
     where
@@ -92,4 +92,4 @@ module _ (tid count new : ℕ) where
 -- the process that a fork of thread t makes, where no two threads of its process have one id
 pub same_child : (w : World) (t : Thread) (new : ℕ) (o : Transition) → Forks w t.status new o → (tid : ℕ) (p : Process) → AreDistinct (ids_of p.threads) → with_id tid p.threads ≡ Some t → child_of tid new (changed tid o p) ≡ child_of tid new p
 same_child w t new o fork tid p distinct is =
-    ap (λ (x : Transition). child_of tid new (changed tid x p)) fork.is ∙ child_by_fork tid fork.count new p (one_forks tid fork.count new t (ap in_child fork.in_fork) p.threads distinct is)
+    ap (λ (x : Transition). child_of tid new (changed tid x p)) fork.is ∙ child_by_fork tid fork.at.length new p (one_forks tid fork.at.length new t (ap in_child fork.in_fork) p.threads distinct is)

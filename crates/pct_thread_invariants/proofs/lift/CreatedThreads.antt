@@ -1,10 +1,10 @@
 -- What each transition creates, by the tables: a process only as a thread forks, and a thread only with an id that is offered.
 use Rattle.pct_names.proofs.Names.{◌&&◌, ◌+◌, [], Alt, and_left, arith, body_at, Bool, child_by, choices_of, cond_some, Config, false}
-use Rattle.pct_names.proofs.Names.{family_among, filter, Forking, forks_by, free_ids, IfSome, is_unreaped, length, List, list_any, map}
-use Rattle.pct_names.proofs.Names.{MAX_PROCESSES, nat_eq, nat_lt, NewThread, next_of, NextStatement, None, offers, Option, option_map_or}
-use Rattle.pct_names.proofs.Names.{Others, others_of, Prepare, Process, refl, Relative, relative_of, reverse, Script, SharedState, Some}
-use Rattle.pct_names.proofs.Names.{Status, Stmt, subst, suc, sym, Thread, Transition, transition_by, true, What, World, ◌||◌, ℕ, ◌∙◌, ◌∷◌}
-use Rattle.pct_names.proofs.Names.{◌≡◌, ◌≤◌}
+use Rattle.pct_names.proofs.Names.{family_among, filter, ForkAt, Forking, forks_by, free_ids, IfSome, is_unreaped, length, List, list_any}
+use Rattle.pct_names.proofs.Names.{map, MAX_PROCESSES, nat_eq, nat_lt, NewThread, next_of, NextStatement, None, offers, Option}
+use Rattle.pct_names.proofs.Names.{option_map_or, Others, others_of, Prepare, Process, refl, Relative, relative_of, reverse, Script}
+use Rattle.pct_names.proofs.Names.{SharedState, Some, Status, Stmt, subst, suc, sym, Thread, Transition, transition_by, true, What, World}
+use Rattle.pct_names.proofs.Names.{◌||◌, ℕ, ◌∙◌, ◌∷◌, ◌≡◌, ◌≤◌}
 use mathlib.Core.Bool.{and-true, or-false}
 use Rattle.std.proofs.Common.{ne_eqb}
 use Rattle.pct_laws.specs.KnownThreads.{creates_id, makes_process}
@@ -16,11 +16,10 @@ use Rattle.pct_thread_invariants.proofs.lift.HandlerEvents.{of_each_phase}
 
 -- a thread with this status is in fork, before the process is made, and the transition makes the next process, with this id
 pub record Forks (w : World) (s : Status) (new : ℕ) (o : Transition) : Type 0 where
-  pub index : ℕ
-  pub count : ℕ
-  pub answer : ℕ
-  pub in_fork : s ≡ Forking Prepare index count answer
-  pub is : o ≡ forks_by count (Some new)
+  pub at : ForkAt
+  pub prepares : at.phase ≡ Prepare
+  pub in_fork : s ≡ Forking at
+  pub is : o ≡ forks_by at.length (Some new)
   pub is_next : new ≡ 1 + length w.processes
 
 -- the id of the process that a transition of a thread with a status makes, if it makes one
@@ -40,14 +39,14 @@ GivesNext w others = (new : ℕ) → others.family.new_pid ≡ Some new → new 
 module _ (w : World) (passes : ℕ) (body : List Stmt) (shared : SharedState) (t : Thread) (others : Others) (gives_next : GivesNext w others) where
   case_makes : {next : NextStatement} {s : Status} {o : Transition} → TransitionCase passes body shared t others true next s o → (made : Option ℕ) × Makes w s o made
   unfolding child_by forks_by
-  case_makes (process_forked next index count answer new is) = (Some new, forks new (record { index = index; count = count; answer = answer; in_fork = refl; is = refl; is_next = gives_next new is }))
+  case_makes (process_forked next at new prepares is) = (Some new, forks new (record { at = at; prepares = prepares; in_fork = refl; is = refl; is_next = gives_next new is }))
   case_makes (fork_handler_called next at call is) = (None, makes_none (λ tid p. refl) (λ pid. of_each_phase (λ (w : What). list_any (makes_process pid) (w ∷ []) ≡ false) call.func refl refl refl at.phase))
   case_makes _ = (None, makes_none (λ tid p. refl) (λ pid. refl))
 
   -- no transition of a process that was made makes that process
   case_creates : (pid : ℕ) → pid ≤ length w.processes → {next : NextStatement} {s : Status} {o : Transition} → TransitionCase passes body shared t others true next s o → CreatesOnly pid others.new_ids o
   case_creates pid made (thread_made frame result id f v detached n among) = record { new_id = among refl; reports = λ tid same. or-false (nat_eq n tid || false) ∙ or-false (nat_eq n tid) ∙ sym (and-true (nat_eq n tid)) }
-  case_creates pid made (process_forked next index count answer new is) =
+  case_creates pid made (process_forked next at new prepares is) =
       let number : new ≡ 1 + length w.processes = gives_next new is in
       let differs : nat_eq new pid ≡ false = ne_eqb new pid (λ same. absurd (omega (arith, number, made, same))) in
       record { new_id = tt; reports = λ tid same. or-false (nat_eq new pid && same) ∙ and_left (nat_eq new pid) same differs }

@@ -1,10 +1,10 @@
 -- A relation between a thread and what the events report of it, that each transition keeps where a rule of its process holds, holds of
 -- every thread after every run.
 use Rattle.pct_names.proofs.Names.{◌&&◌, Alt, and_left, ap, Bool, changed, child_of, choices_of, cond, Config, Entry, eqb-false, event_of}
-use Rattle.pct_names.proofs.Names.{false, false≢true, find, Forking, holds_slot, is_live_thread, List, made_process, made_thread, map}
-use Rattle.pct_names.proofs.Names.{moved, named_after, NamedAction, nat_eq, NewThread, None, none-some, offers, Option, option_and_then}
-use Rattle.pct_names.proofs.Names.{Prepare, Process, refl, replica_of, reverse, Run, same_Some, Script, Some, subst, subst₂, sym, Thread}
-use Rattle.pct_names.proofs.Names.{thread_moved, thread_with, Transition, transition_by, true, World, ℕ, ◌∙◌, ◌≡◌}
+use Rattle.pct_names.proofs.Names.{false, false≢true, find, ForkAt, Forking, holds_slot, is_live_thread, List, made_process, made_thread}
+use Rattle.pct_names.proofs.Names.{map, moved, named_after, NamedAction, nat_eq, NewThread, None, none-some, offers, Option}
+use Rattle.pct_names.proofs.Names.{option_and_then, Process, refl, replica_of, reverse, Run, same_Some, Script, Some, subst, subst₂, sym}
+use Rattle.pct_names.proofs.Names.{Thread, thread_moved, thread_with, Transition, transition_by, true, World, ℕ, ◌∙◌, ◌≡◌}
 use mathlib.Core.Bool.{and-true, and-false}
 use Rattle.std.proofs.Common.{ne_eqb, eqb-true}
 use Rattle.std.proofs.lemmas.Bool.{true≢false}
@@ -75,7 +75,7 @@ module _ {T : Type 0} (g : ThreadReading T) (L : Thread → T → Type 0) where
       -- a transition of the thread
       pub kept : (w : World) (p : Process) (t : Thread) (k : T) (choice : Alt) → K p → offers (choices_of script config w p t) choice ≡ true → L t k → L (moved (transition_by script config w p t choice) t) (after_all g (reverse (transition_by script config w p t choice).events) k)
       -- the replica of the thread, in the process that its fork makes
-      pub replica : (w : World) (p : Process) (t : Thread) (k : T) (index count answer : ℕ) → K p → t.status ≡ Forking Prepare index count answer → L t k → L (replica_of t) (cond g.inherits (g.replica k g.start) g.start)
+      pub replica : (w : World) (p : Process) (t : Thread) (k : T) (at : ForkAt) → K p → t.status ≡ Forking at → L t k → L (replica_of t) (cond g.inherits (g.replica k g.start) g.start)
 
     module _ (rule : IsThreadRule) where
       initial_by : (initial : Bool) → OfThread (cond initial (Some (initial_thread script)) None) g.start
@@ -137,7 +137,7 @@ module _ {T : Type 0} (g : ThreadReading T) (L : Thread → T → Type 0) where
           born_fit : (new : ℕ) → Forks w t.status new o → (tid : ℕ) → OfThread (thread_with tid (child_of e.tid new p)) (at_birth (of_thread g tid) e new (k tid) g.start)
           born_fit new fork tid =
               let it : L t (k e.tid) = (of_found e.tid (Some t) it_is_made).here (mover script config w p e t moves).here in
-              born_by p e.tid t k (rule.replica w p t (k e.tid) fork.index fork.count fork.answer in_process fork.in_fork it) tid (nat_eq e.tid tid) refl (heir e.tid new p t (mover script config w p e t moves) tid)
+              born_by p e.tid t k (rule.replica w p t (k e.tid) fork.at in_process fork.in_fork it) tid (nat_eq e.tid tid) refl (heir e.tid new p t (mover script config w p e t moves) tid)
 
       -- ---- processes
 

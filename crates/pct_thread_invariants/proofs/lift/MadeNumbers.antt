@@ -31,7 +31,7 @@ mentioned_reading : (tid pid : ℕ) (events : List Event) → is_mentioned pid t
 mentioned_reading tid = is_thread_reading mentioned tid (λ pid events. is_mentioned pid tid events) (λ pid. refl) (λ pid e earlier. one_mention (is_own pid tid e) (is_fork_of pid tid e) (is_mentioned pid tid earlier))
 
 mentioned_rule : (script : Script) (config : Config) → IsThreadRule mentioned (λ t k. Unit {0}) script config (λ p. Unit {0})
-mentioned_rule script config = record { initial = tt; created = λ w p t k choice new nothing offered holds makes. tt; named = λ a t k holds. tt; kept = λ w p t k choice nothing offered holds. tt; replica = λ w p t k index handlers pid nothing forks holds. tt }
+mentioned_rule script config = record { initial = tt; created = λ w p t k choice new nothing offered holds makes. tt; named = λ a t k holds. tt; kept = λ w p t k choice nothing offered holds. tt; replica = λ w p t k at nothing forks holds. tt }
 
 here_by : (found : Option Thread) (k : Bool) → OfThread mentioned (λ t k. Unit {0}) found k → k ≡ true → IsSomeAnd found (λ t. t.gone ≡ false)
 here_by None k none is = absurd (false≢true (sym none ∙ is))

@@ -121,7 +121,7 @@ module _ (passes : ℕ) (body : List Stmt) (shared : SharedState) (t : Thread) (
     status_stands (status.InWaitPid pid) frames fits c = with_frames frames fits.0
     status_stands (status.Waiting n m) frames fits c = with_frames frames fits.0
     status_stands (status.Reacquire n m cause) frames fits c = with_frames frames fits.0
-    status_stands (status.Forking phase index length pid) frames fits c = with_frames frames fits.0
+    status_stands (status.Forking at) frames fits c = with_frames frames fits.0
     status_stands status.Ending frames fits c = inl (fits.not_ended, fits.not_exiting)
     status_stands (status.Ended v) frames fits c = absurd (case_ended c)
     status_stands status.Exiting frames fits c = let goes = case_exiting c in inr (fits.1, goes.0, goes.1)

@@ -162,7 +162,7 @@ module _ (script : Script) where
     of_status (status.Waiting c m) frames by = of_framed (status.Waiting c m) frames refl refl by.0
     of_status (status.Reacquire c m cause) frames by = of_framed (status.Reacquire c m cause) frames refl refl by.0
     of_status status.Ending frames by = without_frames status.Ending frames by.no_frames of_ending by
-    of_status (status.Forking phase index length pid) frames by = of_framed (status.Forking phase index length pid) frames refl refl by.0
+    of_status (status.Forking at) frames by = of_framed (status.Forking at) frames refl refl by.0
     of_status (status.Ended v) frames by = without_frames (status.Ended v) frames by.no_frames (of_ended v) by
     of_status status.Exiting frames by = without_frames status.Exiting frames by.0 (λ exits. of_exiting status.Exiting [] exits.1 refl tt refl tt) by
 
@@ -174,7 +174,7 @@ module _ (script : Script) where
     suspended_by : (st : Status) (frames : List Frame) → ByAnyStatus script st why frames handlers s → IsSuspendedAt (next_of script frames) st
     suspended_by (status.InSem sem) frames by = (outside_exit script why handlers s (status.InSem sem) frames refl by).1
     suspended_by (status.InWaitPid pid) frames by = (outside_exit script why handlers s (status.InWaitPid pid) frames refl by).1
-    suspended_by (status.Forking phase index length pid) frames by = (outside_exit script why handlers s (status.Forking phase index length pid) frames refl by).1
+    suspended_by (status.Forking at) frames by = (outside_exit script why handlers s (status.Forking at) frames refl by).1
     suspended_by (status.Waiting c m) frames by = (outside_exit script why handlers s (status.Waiting c m) frames refl by).1
     suspended_by (status.Reacquire c m cause) frames by = (outside_exit script why handlers s (status.Reacquire c m cause) frames refl by).1
     suspended_by _ frames by = tt
@@ -185,7 +185,7 @@ module _ (script : Script) where
 
     -- a thread in fork has not begun to end
     in_fork_by : (st : Status) (frames : List Frame) → ByAnyStatus script st why frames handlers s → is_forking st ≡ true → has_begun_to_end why ≡ false
-    in_fork_by (status.Forking phase index length pid) frames by forks = (outside_exit script why handlers s (status.Forking phase index length pid) frames refl by).2
+    in_fork_by (status.Forking at) frames by forks = (outside_exit script why handlers s (status.Forking at) frames refl by).2
     in_fork_by _ frames by forks = absurd (false≢true forks)
 
     -- below a fork handler the thread is in fork

@@ -17,14 +17,14 @@ module _ (script : Script) where
     pub alive : has_begun_to_end why ≡ false
 
   pub in_fork : (st : Status) (why : Reason) (frames : List Frame) (handlers : List (ℕ × ℕ)) (s : ThreadSummary) → is_forking st ≡ true → ByAnyStatus script st why frames handlers s → InFork why frames handlers s
-  in_fork (status.Forking phase index length pid) why frames handlers s forks by =
-      let is = outside_exit script why handlers s (status.Forking phase index length pid) frames refl by in
+  in_fork (status.Forking at) why frames handlers s forks by =
+      let is = outside_exit script why handlers s (status.Forking at) frames refl by in
       record { has = is.0; at = is.1; alive = is.2 }
   in_fork _ why frames handlers s forks by = absurd (false≢true forks)
 
   -- and so does its replica
   child_by : (st : Status) (why : Reason) (frames : List Frame) (handlers : List (ℕ × ℕ)) (s : ThreadSummary) → is_forking st ≡ true → InFork why frames handlers s → ByStatus script (in_child st) why frames handlers s
-  child_by (status.Forking phase index length pid) why frames handlers s forks is = (is.has, is.at, is.alive)
+  child_by (status.Forking at) why frames handlers s forks is = (is.has, is.at, is.alive)
   child_by _ why frames handlers s forks is = absurd (false≢true forks)
 
   -- the replica of a thread in fork

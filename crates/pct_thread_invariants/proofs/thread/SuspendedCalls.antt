@@ -60,7 +60,7 @@ module _ (script : Script) (config : Config) where
     kept = λ w p t k choice known offered newest_is.
         let others : Others = others_of config.slots w p t.id in
         case_newest config.passes (body_at script t.frames) p.shared t others k (case_of config.passes (body_at script t.frames) p.shared t others true choice (next_of script t.frames) t.status (λ known. offered)) newest_is;
-    replica = λ w p t k index count answer known forks newest_is event called. absurd (none-some event (sym (ap (λ (s : Status). call_event (in_child s)) forks) ∙ called));
+    replica = λ w p t k at known forks newest_is event called. absurd (none-some event (sym (ap (λ (s : Status). call_event (in_child s)) forks) ∙ called));
   }
 
   -- after every run, the newest event of a thread that is suspended in such a call is that of the call

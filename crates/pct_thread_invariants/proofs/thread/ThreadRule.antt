@@ -102,7 +102,7 @@ module _ (script : Script) where
   ByStatus (status.InWaitPid pid) why frames handlers s = HasFrames why frames handlers s × IsSuspendedAt (next_of script frames) (status.InWaitPid pid)
   ByStatus (status.Waiting c m) why frames handlers s = HasFrames why frames handlers s × IsSuspendedAt (next_of script frames) (status.Waiting c m)
   ByStatus (status.Reacquire c m cause) why frames handlers s = HasFrames why frames handlers s × IsSuspendedAt (next_of script frames) (status.Reacquire c m cause) × (has_left_wait (status.Reacquire c m cause) ≡ true → has_begun_to_end why ≡ false)
-  ByStatus (status.Forking phase index length pid) why frames handlers s = HasFrames why frames handlers s × IsSuspendedAt (next_of script frames) (status.Forking phase index length pid) × (has_begun_to_end why ≡ false)
+  ByStatus (status.Forking at) why frames handlers s = HasFrames why frames handlers s × IsSuspendedAt (next_of script frames) (status.Forking at) × (has_begun_to_end why ≡ false)
   ByStatus status.Ending why frames handlers s = GoesToHandlers why frames handlers s
   ByStatus (status.Ended v) why frames handlers s = HasEnded v why frames handlers s
   ByStatus status.Exiting why frames handlers s = (frames ≡ []) × (s.exiting ≡ true)

@@ -1,5 +1,5 @@
 -- Each transition of a thread keeps the rule of the thread.
-use Rattle.pct_names.proofs.Names.{[], Alt, and_from, ap, body_at, Bool, choices_of, Config, end_value, false, Frame, in_fork, inl, inr}
+use Rattle.pct_names.proofs.Names.{[], Alt, and_from, ap, body_at, Bool, choices_of, Config, end_value, false, Frame, inl, inr}
 use Rattle.pct_names.proofs.Names.{is_required, length, List, nat_eq, new_frame, new_thread, NewThread, next_in, next_of, NextStatement}
 use Rattle.pct_names.proofs.Names.{none-some, offers, Operand, Option, Others, others_of, own_after, Parent, point_kind, Prepare, Process}
 use Rattle.pct_names.proofs.Names.{refl, same_Some, Script, SharedState, Some, Status, Stmt, subst, sym, Thread, thread_at, Transition}
@@ -105,20 +105,20 @@ module _ (script : Script) (passes : ℕ) (matches : PushesMatch script) (names 
   -- fork and its handlers, and waitpid
   case_keeps (on_top frame below s at) (fork_begun _ result child alive) rule =
       let count : ℕ = length shared.fork_handlers in
-      record { own = suspends script passes t status.Running (frame ∷ below) reported rule rule.by_status (status.Forking Prepare count count 0) (rule.by_status, ap (λ (x : Option Stmt). is_at_fork (next_in frame x)) at, alive); lawful = refl }
+      record { own = suspends script passes t status.Running (frame ∷ below) reported rule rule.by_status (status.Forking (record { phase = Prepare; next = count; length = count; answer = 0 })) (rule.by_status, ap (λ (x : Option Stmt). is_at_fork (next_in frame x)) at, alive); lawful = refl }
   case_keeps {frames} {o = o} place (fork_handler_called next at call is) rule =
-      let keeps : Keeps script passes (own (in_fork at) frames) reported o = fork_handler_keeps script passes matches t frames reported at call (plain_below script call.func (next_plain script shared.fork_handlers registered.fork_handlers at call is)) rule in
+      let keeps : Keeps script passes (own (status.Forking at) frames) reported o = fork_handler_keeps script passes matches t frames reported at call (plain_below script call.func (next_plain script shared.fork_handlers registered.fork_handlers at call is)) rule in
       let no_exit : calls_exit_function o.events ≡ false = of_each_phase (λ (w : What). calls_exit_function (w ∷ []) ≡ false) call.func refl refl refl at.phase in
-      subst (λ (exits : Bool). KeepsBy script passes (FitsIf script passes exits) (own (in_fork at) frames) reported o) (sym no_exit) keeps
+      subst (λ (exits : Bool). KeepsBy script passes (FitsIf script passes exits) (own (status.Forking at) frames) reported o) (sym no_exit) keeps
   case_keeps (on_top frame below s at) (fork_handler_left _ _ v values returns is keeps) rule = fork_handler_left_keeps script passes matches t frame below reported rule shared.globals at returns is values
-  case_keeps {frames} place (process_forked next index count answer new is) rule =
-      record { own = suspends script passes t (status.Forking Prepare index count answer) frames reported rule rule.by_status.0 (status.Forking Parent 0 count new) rule.by_status; lawful = refl }
-  case_keeps {frames} place (process_not_forked next index count answer) rule =
-      record { own = suspends script passes t (status.Forking Prepare index count answer) frames reported rule rule.by_status.0 (status.Forking Parent 0 count 0) rule.by_status; lawful = refl }
-  case_keeps (on_top frame below s at) (fork_failed _ result child index length pid) rule =
-      next_keeps script passes matches t frame below reported (awake script passes t (status.Forking Parent index length pid) (frame ∷ below) reported rule rule.by_status.0) (status.Forking Parent index length pid) (statement.Fork result child) at refl refl refl refl refl refl
-  case_keeps (on_top frame below s at) (fork_returned _ result child phase index length pid n) rule =
-      next_keeps script passes matches t frame below reported (awake script passes t (status.Forking phase index length pid) (frame ∷ below) reported rule rule.by_status.0) (status.Forking phase index length pid) (statement.Fork result child) at refl refl refl refl refl refl
+  case_keeps {frames} place (process_forked next at new prepares is) rule =
+      record { own = suspends script passes t (status.Forking at) frames reported rule rule.by_status.0 (status.Forking (record { phase = Parent; next = 0; length = at.length; answer = new })) rule.by_status; lawful = refl }
+  case_keeps {frames} place (process_not_forked next at prepares) rule =
+      record { own = suspends script passes t (status.Forking at) frames reported rule rule.by_status.0 (status.Forking (record { phase = Parent; next = 0; length = at.length; answer = 0 })) rule.by_status; lawful = refl }
+  case_keeps (on_top frame below s at) (fork_failed _ result child fork returns) rule =
+      next_keeps script passes matches t frame below reported (awake script passes t (status.Forking fork) (frame ∷ below) reported rule rule.by_status.0) (status.Forking fork) (statement.Fork result child) at refl refl refl refl refl refl
+  case_keeps (on_top frame below s at) (fork_returned _ result child fork n) rule =
+      next_keeps script passes matches t frame below reported (awake script passes t (status.Forking fork) (frame ∷ below) reported rule rule.by_status.0) (status.Forking fork) (statement.Fork result child) at refl refl refl refl refl refl
   case_keeps (on_top frame below s at) (waitpid_begun _ result d pid unasked) rule =
       record { own = suspends script passes t status.Running (frame ∷ below) reported rule rule.by_status (status.InWaitPid (value frame pid)) (rule.by_status, ap (λ (x : Option Stmt). is_at_waitpid (next_in frame x)) at); lawful = refl }
   case_keeps (on_top frame below s at) (child_reaped _ result d operand pid n child is ended) rule =
