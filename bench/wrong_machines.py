@@ -7,11 +7,11 @@ A machine is the definition of a step with one line of it changed, so that it br
 a request that is dropped. In a copy of the crates up to pct_ending_laws each machine is made in turn, and `rt check` then has to
 prove the laws of it. It is refused if the check does not prove them, and if an error is in a certain file: that of the proof of
 the law, or of a part of the invariant which this law needs. Other files have errors, too, where their proofs use the line that
-was changed. A crate is checked only where those below it are proved, so in the copy the six crates that prove the laws are one.
+was changed. A crate is checked only where those below it are proved, so in the copy the eight crates that prove the laws are one.
 The list of the cases of a transition, from which the laws are proved, repeats the transitions; where the changed line is one of a
 transition, its case is changed alike, so that what is refused is the law.
 
-With names only these machines are tried. A machine takes about half a minute. `rt` has to be in the PATH. The last line is
+With names only these machines are tried. A machine takes about forty seconds. `rt` has to be in the PATH. The last line is
 `N passed, M failed`. The status is 1 if M is not 0 or N is 0.
 """
 import dataclasses
