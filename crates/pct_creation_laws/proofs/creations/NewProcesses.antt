@@ -1,12 +1,12 @@
 -- The law of creation, of processes: a step makes the processes that its events report, and each is a child of the process of its thread,
 -- with the replica of the thread.
 use Rattle.pct_names.proofs.Names.{[], after_transition, All, All-from_recursion, AllByRecursion, ap, Bool, child_by, child_of, cond}
-use Rattle.pct_names.proofs.Names.{Config, drop, Entry, false, false≢true, filter, find, flat_map, forks_by, holds_slot}
+use Rattle.pct_names.proofs.Names.{Config, drop, Entry, false, false≢true, filter, find, flat_map, Forking, forks_by, holds_slot}
 use Rattle.pct_names.proofs.Names.{in_child, inherited, is_ended_status, is_last, is_live_thread, Legal, length, List}
 use Rattle.pct_names.proofs.Names.{list_all, list_any, made_process, map, nat_eq, NextStatement, None, none-some, not, Option, Others}
-use Rattle.pct_names.proofs.Names.{Process, process_moved, refl, replica_of, Run, run, Script, SharedState, Some, Status, step}
-use Rattle.pct_names.proofs.Names.{Stmt, subst, sym, take, Thread, Transition, transition_by, true, What, with_id, ℕ, ◌&&◌, ◌++◌, ◌||◌}
-use Rattle.pct_names.proofs.Names.{◌∙◌, ◌∷◌, ◌≡◌}
+use Rattle.pct_names.proofs.Names.{Prepare, Process, process_moved, refl, replica_of, Run, run, Script, SharedState, Some, Status}
+use Rattle.pct_names.proofs.Names.{step, Stmt, subst, sym, take, Thread, Transition, transition_by, true, What, with_id, ℕ, ◌&&◌, ◌++◌}
+use Rattle.pct_names.proofs.Names.{◌||◌, ◌∙◌, ◌∷◌, ◌≡◌}
 use Rattle.std.proofs.Common.{eqb-true, eq-eqb}
 use Rattle.pct_laws.specs.CreationLaw.{CreatesProcesses, IsChild, is_another, process_of, status_in_child}
 use Rattle.pct_laws.specs.ProcessSteps.{EachStepOfProcesses}
@@ -14,7 +14,7 @@ use Rattle.pct_laws.specs.ThreadSteps.{ThreadStep}
 use Rattle.pct_transition_cases.proofs.TransitionCases.{TransitionCase, fork_handler_called, process_forked}
 use Rattle.pct_thread_invariants.proofs.ThreadsOfRun.{threads_fit}
 use Rattle.pct_thread_invariants.proofs.lift.ChangedThreads.{pids_of, process_moved_pid}
-use Rattle.pct_thread_invariants.proofs.lift.CreatedThreads.{Makes, makes_none, forks, Forks}
+use Rattle.pct_thread_invariants.proofs.lift.CreatedThreads.{Makes, makes_none, forks}
 use Rattle.pct_thread_invariants.proofs.lift.EveryProcess.{moves_of_run, process_taken}
 use Rattle.pct_thread_invariants.proofs.lift.EveryThread.{of_its_threads}
 use Rattle.pct_thread_invariants.proofs.lift.HandlerEvents.{of_each_phase}
@@ -105,6 +105,31 @@ module _ (test other : Thread → Bool) where
       (each t.id t (ap (λ b. cond b (Some t) (find (λ u. nat_eq u.id t.id) threads)) (eq-eqb t.id t.id refl)))
       (one_fails threads distinct.1 (λ id u is. each id u (found_behind t threads distinct.0 id u is)))
 
+-- ---- the child
+
+-- a step of a thread in fork makes a child of its process
+child_lawful : (s : ThreadStep) (new : ℕ) → s.process.pid ≡ s.pid → AreDistinct (ids_of s.process.threads) → with_id s.tid s.process.threads ≡ Some s.before
+    → not (is_last s.tid s.process.threads) ≡ list_any (is_another s.tid) s.process.threads → {index count answer : ℕ} → s.before.status ≡ Forking Prepare index count answer
+    → IsChild s (child_of s.tid new s.process)
+unfolding child_of
+child_lawful s new pid distinct is others forking = record {
+  parent = pid;
+  runs = refl;
+  copy = ap (λ (b : Bool). record s.process.shared { exit_value = None; restricted = b }) others;
+  thread = replica_of s.before;
+  alone = one_heir s.tid s.process.threads s.before distinct is;
+  is_replica = record {
+    id = refl;
+    frames = refl;
+    in_fork = ap status_in_child forking ∙ ap (λ (x : Status). Some (in_child x)) (sym forking);
+    handlers = refl;
+    state = refl;
+    mode = refl;
+    detached = refl;
+    at_start = record { no_request = refl; not_ending = refl; no_pass = refl; not_ended = refl; not_joined = refl };
+  };
+}
+
 -- ---- each step of a run
 
 module _ (script : Script) (config : Config) where
@@ -130,26 +155,6 @@ module _ (script : Script) (config : Config) where
       abbrev made : ThreadStep
       made = record s { pid = e.pid; tid = e.tid; process = p; before = t; events = o.events }
 
-      child_lawful : (new : ℕ) → Forks r.world t.status new o → IsChild made (child_of e.tid new p)
-      unfolding child_of
-      child_lawful new fork = record {
-        parent = eqb-true p.pid e.pid (found_passes (λ (q : Process). nat_eq q.pid e.pid) r.world.processes p process_is);
-        runs = refl;
-        copy = ap (λ (b : Bool). record p.shared { exit_value = None; restricted = b }) others_are;
-        thread = replica_of t;
-        alone = one_heir e.tid p.threads t moves.ids.distinct taken.is_thread;
-        is_replica = record {
-          id = refl;
-          frames = refl;
-          in_fork = ap status_in_child fork.in_fork ∙ ap (λ (x : Status). Some (in_child x)) (sym fork.in_fork);
-          handlers = refl;
-          state = refl;
-          mode = refl;
-          detached = refl;
-          at_start = record { no_request = refl; not_ending = refl; no_pass = refl; not_ended = refl; not_joined = refl };
-        };
-      }
-
       -- the law of the new processes
       abbrev Lawful : List Process → Type 0
       Lawful new = (pids_of new ≡ flat_map process_of o.events) × AllByRecursion (IsChild made) new
@@ -157,7 +162,7 @@ module _ (script : Script) (config : Config) where
       new_lawful : {made_id : Option ℕ} → Makes r.world t.status o made_id → Lawful (child_made e.tid p made_id)
       unfolding forks_by child_of
       new_lawful (makes_none nothing quiet) = (sym (case_quiet (case_of_step script config r.world p e t moves) e.tid p (nothing e.tid p)), tt)
-      new_lawful (forks new fork) = (ap (λ (x : Transition). flat_map process_of x.events) (sym fork.is), (child_lawful new fork, tt))
+      new_lawful (forks new fork) = (ap (λ (x : Transition). flat_map process_of x.events) (sym fork.is), (child_lawful made new (eqb-true p.pid e.pid (found_passes (λ (q : Process). nat_eq q.pid e.pid) r.world.processes p process_is)) moves.ids.distinct taken.is_thread others_are fork.in_fork, tt))
 
       processes_of_step : CreatesProcesses made r.world.processes (after_transition e.pid e.tid o r.world).processes
       processes_of_step =
