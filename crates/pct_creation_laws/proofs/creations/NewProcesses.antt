@@ -1,14 +1,13 @@
 -- The law of creation, of processes: a step makes the processes that its events report, and each is a child of the process of its thread,
 -- with the replica of the thread.
 use Rattle.pct_names.proofs.Names.{[], after_transition, All, All-from_recursion, AllByRecursion, ap, Bool, child_by, child_of, cond}
-use Rattle.pct_names.proofs.Names.{Config, drop, Entry, false, false≢true, filter, find, flat_map, forks_by, holds_slot}
-use Rattle.pct_names.proofs.Names.{in_child, inherited, is_ended_status, is_last, is_live_thread, Legal, length, List}
-use Rattle.pct_names.proofs.Names.{list_all, list_any, made_process, map, nat_eq, NextStatement, None, none-some, not, Option, Others}
-use Rattle.pct_names.proofs.Names.{Process, process_moved, refl, replica_of, Run, run, Script, SharedState, Some, Status, step}
-use Rattle.pct_names.proofs.Names.{Stmt, subst, sym, take, Thread, Transition, transition_by, true, What, with_id, ℕ, ◌&&◌, ◌++◌, ◌||◌}
-use Rattle.pct_names.proofs.Names.{◌∙◌, ◌∷◌, ◌≡◌}
+use Rattle.pct_names.proofs.Names.{Config, drop, Entry, false, false≢true, filter, find, flat_map, forks_by, holds_slot, in_child}
+use Rattle.pct_names.proofs.Names.{inherited, is_ended_status, is_last, is_live_thread, Legal, length, List, list_all, list_any}
+use Rattle.pct_names.proofs.Names.{made_process, map, nat_eq, NextStatement, None, none-some, not, Option, Others, Phase, Process}
+use Rattle.pct_names.proofs.Names.{process_moved, refl, replica_of, Run, run, Script, SharedState, Some, Status, step, Stmt, subst, sym}
+use Rattle.pct_names.proofs.Names.{take, Thread, Transition, transition_by, true, What, with_id, ℕ, ◌&&◌, ◌++◌, ◌||◌, ◌∙◌, ◌∷◌, ◌≡◌}
 use Rattle.std.proofs.Common.{eqb-true, eq-eqb}
-use Rattle.pct_laws.specs.CreationLaw.{CreatesProcesses, IsChild, is_another, process_of, status_in_child}
+use Rattle.pct_laws.specs.CreationLaw.{CreatesProcesses, IsChild, is_another, process_of, status_in_child, status_in_child_by}
 use Rattle.pct_laws.specs.ProcessSteps.{EachStepOfProcesses}
 use Rattle.pct_laws.specs.ThreadSteps.{ThreadStep}
 use Rattle.pct_transition_cases.proofs.TransitionCases.{TransitionCase, fork_handler_called, process_forked}
@@ -35,7 +34,7 @@ use Rattle.pct_creation_laws.proofs.creations.NewItems.{first_items, new_items}
 case_quiet : {passes : ℕ} {body : List Stmt} {shared : SharedState} {t : Thread} {others : Others} {next : NextStatement} {s : Status} {o : Transition} → TransitionCase passes body shared t others true next s o
     → (tid : ℕ) (p : Process) → child_by tid p o.process ≡ [] → flat_map process_of o.events ≡ []
 unfolding child_by
-case_quiet (process_forked next index length answer new is) tid p none = absurd (cc)
+case_quiet (process_forked next at new prepares is) tid p none = absurd (cc)
 case_quiet (fork_handler_called next at call is) tid p none = of_each_phase (λ (w : What). flat_map process_of (w ∷ []) ≡ []) call.func refl refl refl at.phase
 case_quiet _ tid p none = refl
 
@@ -141,7 +140,9 @@ module _ (script : Script) (config : Config) where
         is_replica = record {
           id = refl;
           frames = refl;
-          in_fork = ap status_in_child fork.in_fork ∙ ap (λ (x : Status). Some (in_child x)) (sym fork.in_fork);
+          in_fork =
+              ap status_in_child fork.in_fork ∙ ap (λ (at : Phase). status_in_child_by at fork.at.length) fork.prepares
+              ∙ ap (λ (s : Status). Some (in_child s)) (sym fork.in_fork);
           handlers = refl;
           state = refl;
           mode = refl;
