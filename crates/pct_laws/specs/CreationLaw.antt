@@ -15,6 +15,7 @@ use Rattle.pct_model.specs.declared.schedule.Entry.{Entry}
 use Rattle.pct_model.specs.declared.script.Script.{Script}
 use Rattle.pct_model.specs.declared.state.FrameKind.TheVariants as kind
 use Rattle.pct_model.specs.declared.state.Mode.TheVariants.{Deferred}
+use Rattle.pct_model.specs.declared.state.Phase.{Phase}
 use Rattle.pct_model.specs.declared.state.Phase.TheVariants as phase
 use Rattle.pct_model.specs.declared.state.Reason.TheVariants as reason
 use Rattle.pct_model.specs.declared.state.State.TheVariants.{Enable}
@@ -75,9 +76,15 @@ pub record CreatesThreads (script : Script) (s : ThreadStep) : Type 0 where
 
 -- ---- new processes
 
--- the status of the replica of a thread in fork: it has the child handlers of the same registrations to call, and returns from fork
+-- the status of the replica of a thread in this phase of a fork, which was called with this number of registrations: it has the child
+-- handlers of the same registrations to call, and returns from fork
+abbrev pub status_in_child_by : Phase → ℕ → Option Status
+status_in_child_by phase.Prepare count = Some (status.Forking (record { phase = phase.Child; next = 0; length = count; answer = 0 }))
+status_in_child_by _ count = None
+
+-- the status of the replica of a thread in fork
 abbrev pub status_in_child : Status → Option Status
-status_in_child (status.Forking phase.Prepare index registrations answer) = Some (status.Forking phase.Child 0 registrations 0)
+status_in_child (status.Forking at) = status_in_child_by at.phase at.length
 status_in_child _ = None
 
 -- the replica of a thread, in the process that it makes (XSH fork). That it keeps the id, and that no request is pending for it, are choices

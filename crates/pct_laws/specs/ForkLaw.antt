@@ -29,7 +29,7 @@ use Rattle.pct_laws.specs.ThreadSteps.{ThreadStep, EachStep}
 
 -- the fork of a thread with this status and these kept values: the thread is in fork, or in one of its handlers
 abbrev pub fork_by : Status → Option ForkAt → Option ForkAt
-fork_by (status.Forking phase next length answer) kept = Some (record { phase = phase; next = next; length = length; answer = answer })
+fork_by (status.Forking at) kept = Some at
 fork_by s kept = kept
 
 -- the fork of a thread

@@ -1,10 +1,9 @@
 -- The law of creation: steps that keep it, and steps that do not. Each thread or process that does not keep it differs from one that does in
 -- one thing, and has the name of the sentence that it breaks.
 use Rattle.pct_names.proofs.Names.{[], All-from_recursion, ap, arith, Asynchronous, Bool, codes, cond, Deferred, Disable, Enable, false}
-use Rattle.pct_names.proofs.Names.{false≢true, first_process, Forked, Forking, Frame, Func, IsTrue, length, List, list_any}
-use Rattle.pct_names.proofs.Names.{Main, new_frame, new_shared, new_thread, None, none-some, not, Option, Parent, Prepare, Process}
-use Rattle.pct_names.proofs.Names.{refl, Running, Script, SharedState, slice_index, Some, Start, sym, Thread, true}
-use Rattle.pct_names.proofs.Names.{ℕ, ◌∙◌, ◌∷◌, ◌≡◌}
+use Rattle.pct_names.proofs.Names.{false≢true, first_process, Forked, Frame, Func, IsTrue, length, List, list_any, Main, map, new_frame}
+use Rattle.pct_names.proofs.Names.{new_shared, new_thread, None, none-some, not, Option, Parent, Phase, Prepare, Process, refl, Running}
+use Rattle.pct_names.proofs.Names.{same_Some, Script, SharedState, slice_index, Some, Start, Status, sym, Thread, true, ℕ, ◌∙◌, ◌∷◌, ◌≡◌}
 use Rattle.pct_model.specs.declared.event.What.TheVariants as what
 use Rattle.pct_model.specs.declared.state.FrameKind.TheVariants as kind
 use Rattle.pct_model.specs.declared.state.Phase.TheVariants as phase
@@ -12,9 +11,9 @@ use Rattle.pct_model.specs.declared.state.Status.TheVariants as status
 use Rattle.pct_model.specs.declared.statement.Dest.TheVariants as destination
 use Rattle.pct_model.specs.declared.statement.Operand.TheVariants as operand
 use Rattle.pct_model.specs.declared.statement.Stmt.TheVariants as statement
-use Rattle.pct_laws.specs.CreationLaw.{CreatesProcesses, CreatesThreads, IsChild, IsCreated, IsReplica}
+use Rattle.pct_laws.specs.CreationLaw.{CreatesProcesses, CreatesThreads, IsChild, IsCreated, IsReplica, status_in_child}
 use Rattle.pct_laws.specs.ThreadSteps.{ThreadStep}
-use Rattle.pct_rows.proofs.ExampleScripts.{are_static, function}
+use Rattle.pct_rows.proofs.ExampleScripts.{are_static, forking, function}
 use Rattle.pct_rows.proofs.OnLiterals.{checks_on_literals, runs_on_literals}
 
 -- ---- a script whose `main` creates a thread, which executes `f` with the argument 9, and forks
@@ -141,7 +140,7 @@ each_thread_stays law = let n : ◌≡◌ {A = ℕ} 2 1 = ap (λ (ids : List ℕ
 
 -- thread 1 in fork, with a handler and with a request that it does not act upon, and thread 2
 abbrev forker : Thread
-forker = record (first_at 1) { status = status.Forking phase.Prepare 0 3 0; state = Disable; pending = true; handlers = (1, 10) ∷ [] }
+forker = record (first_at 1) { status = forking phase.Prepare 0 3 0; state = Disable; pending = true; handlers = (1, 10) ∷ [] }
 
 -- a step in which thread 1 makes process 2
 abbrev forks : ThreadStep
@@ -151,14 +150,14 @@ forks = record {
   earlier = [];
   process = with_threads (forker ∷ created ∷ []);
   before = forker;
-  process_after = with_threads (record forker { status = status.Forking phase.Parent 0 3 2 } ∷ created ∷ []);
-  after = record forker { status = status.Forking phase.Parent 0 3 2 };
+  process_after = with_threads (record forker { status = forking phase.Parent 0 3 2 } ∷ created ∷ []);
+  after = record forker { status = forking phase.Parent 0 3 2 };
   events = what.Forked 2 ∷ [];
 }
 
 -- the replica of thread 1
 abbrev replica : Thread
-replica = record forker { status = status.Forking phase.Child 0 3 0; pending = false }
+replica = record forker { status = forking phase.Child 0 3 0; pending = false }
 
 -- the process with it
 abbrev child_with : Thread → Process
@@ -181,6 +180,18 @@ is_a_replica = record {
   detached = refl;
   at_start = record { no_request = refl; not_ending = refl; no_pass = refl; not_ended = refl; not_joined = refl };
 }
+
+-- a replica is made before the parent handlers are called, and has each child handler of the same registrations left
+its_fork : map (λ at. status_in_child (forking at 1 3 2)) (phase.Prepare ∷ phase.Parent ∷ phase.Child ∷ []) ≡ Some (forking phase.Child 0 3 0) ∷ None ∷ None ∷ []
+its_fork = refl
+
+-- the phase of a thread in fork
+abbrev phase_of : Status → Phase
+phase_of (status.Forking at) = at.phase
+phase_of _ = phase.Prepare
+
+it_has_no_parent_handler_left : IsReplica forker (record replica { status = forking phase.Parent 0 3 0 }) → ⊥
+it_has_no_parent_handler_left law = let is : phase.Child ≡ phase.Parent = ap phase_of (same_Some _ _ law.in_fork) in absurd (cc)
 
 is_a_child : IsChild forks (child_with replica)
 is_a_child = record {

@@ -1,8 +1,9 @@
 -- The scripts of the two worked examples, and the reports of their runs.
 use Rattle.pct_names.proofs.Names.{◌++◌, [], alt_words, Bool, codes, default_config, digits, end_line, entry_line, event_line, event_words}
-use Rattle.pct_names.proofs.Names.{Func, header_line, is_static, IsTrue, List, name_at, refl, replicate, report, report_lines}
-use Rattle.pct_names.proofs.Names.{schedule_lines, Script, Some, Stmt, stop_words, thread_text, title_line, verdict_line, verdict_words, ℕ}
-use Rattle.pct_names.proofs.Names.{◌∷◌, ◌≡◌}
+use Rattle.pct_names.proofs.Names.{Func, header_line, is_static, IsTrue, List, name_at, Phase, refl, replicate, report, report_lines}
+use Rattle.pct_names.proofs.Names.{schedule_lines, Script, Some, Status, Stmt, stop_words, thread_text, title_line, verdict_line}
+use Rattle.pct_names.proofs.Names.{verdict_words, ℕ, ◌∷◌, ◌≡◌}
+use Rattle.pct_model.specs.declared.state.Status.TheVariants as status
 use Rattle.pct_model.specs.declared.statement.Operand.TheVariants as operand
 use Rattle.pct_model.specs.declared.statement.Stmt.TheVariants as statement
 use Rattle.pct_rows.specs.Examples.{smallest_report, cleanup_report, first_goes}
@@ -17,6 +18,10 @@ are_static funcs = is_static (record { globals = []; mutexes = []; conds = []; s
 -- a function with the parameter `x`, these statements and its closing `end`
 abbrev pub function : List ℕ → List Stmt → Func
 function name body = record { name = name; locals = codes "x" ∷ []; body = body ++ statement.End ∷ [] }
+
+-- the status of a thread in a phase of a fork, with a next registration, their number, and an answer
+abbrev pub forking : Phase → (next length answer : ℕ) → Status
+forking phase next length answer = status.Forking (record { phase = phase; next = next; length = length; answer = answer })
 
 abbrev returns_0 : Stmt
 returns_0 = statement.Return (operand.Num 0)

@@ -1,18 +1,17 @@
 -- The law of fork handlers: steps that keep it, and steps that do not, each with the name of the sentence that it breaks.
 use Rattle.pct_names.proofs.Names.{[], All-from_recursion, ap, arith, codes, false, false≢true, first_process, ForkAt, Forked}
-use Rattle.pct_names.proofs.Names.{ForkHandlers, Forking, Func, inl, inr, IsTrue, length, List, Main, map, new_frame}
-use Rattle.pct_names.proofs.Names.{new_shared, new_thread, None, none-some, Option, Parent, Phase, Prepare, Process}
-use Rattle.pct_names.proofs.Names.{refl, Running, same_Some, Script, Some, Status, subst, sym, Thread, What, ℕ, ◌∙◌, ◌∷◌, ◌≡◌, ◌≢◌}
+use Rattle.pct_names.proofs.Names.{ForkHandlers, Func, inl, inr, IsTrue, length, List, Main, map, new_frame, new_shared, new_thread, None}
+use Rattle.pct_names.proofs.Names.{none-some, Option, Parent, Phase, Prepare, Process, refl, Running, same_Some, Script, Some, Status}
+use Rattle.pct_names.proofs.Names.{subst, sym, Thread, What, ℕ, ◌∙◌, ◌∷◌, ◌≡◌, ◌≢◌}
 use Rattle.pct_model.specs.declared.event.Caller.TheVariants as caller
 use Rattle.pct_model.specs.declared.event.What.TheVariants as what
 use Rattle.pct_model.specs.declared.state.FrameKind.TheVariants as kind
 use Rattle.pct_model.specs.declared.state.Phase.TheVariants as phase
-use Rattle.pct_model.specs.declared.state.Status.TheVariants as status
 use Rattle.pct_model.specs.declared.statement.Dest.TheVariants as destination
 use Rattle.pct_model.specs.declared.statement.Stmt.TheVariants as statement
 use Rattle.pct_laws.specs.ForkLaw.{CallsHandler, EachHandler, fork_of, ForksWithNoneLeft, KeepsFork, left_in, left_to_call}
 use Rattle.pct_laws.specs.ThreadSteps.{ThreadStep}
-use Rattle.pct_rows.proofs.ExampleScripts.{are_static, function}
+use Rattle.pct_rows.proofs.ExampleScripts.{are_static, forking, function}
 use Rattle.pct_rows.proofs.OnLiterals.{checks_on_literals, runs_on_literals}
 
 -- ---- a script whose `main` forks
@@ -66,7 +65,7 @@ step_to before events after =
 
 -- a thread in fork, and one in a handler of its fork
 abbrev in_phase : Phase → ℕ → Thread
-in_phase at next = at_fork (status.Forking at next 3 0) None
+in_phase at next = at_fork (forking at next 3 0) None
 
 abbrev in_handler : Phase → ℕ → Thread
 in_handler at next =
@@ -142,7 +141,7 @@ only_fork_calls_them law = none-some law.fork law.before
 
 -- ---- the fork, and the return
 
-forks_with_none_left : ForksWithNoneLeft (step_to (in_phase phase.Prepare 0) (what.Forked 2 ∷ []) (at_fork (status.Forking phase.Parent 0 3 2) None))
+forks_with_none_left : ForksWithNoneLeft (step_to (in_phase phase.Prepare 0) (what.Forked 2 ∷ []) (at_fork (forking phase.Parent 0 3 2) None))
 forks_with_none_left = record {
   fork = record { phase = phase.Prepare; next = 0; length = 3; answer = 0 };
   fork_after = record { phase = phase.Parent; next = 0; length = 3; answer = 2 };
@@ -159,13 +158,13 @@ forks_with_none_left = record {
 none_left_then : (s : ThreadStep) → s.process.shared.fork_handlers ≡ registered → ForksWithNoneLeft s → left (fork_of s.before) ≡ []
 none_left_then s is law = ap left law.before ∙ subst (λ (hs : List ForkHandlers). left_to_call hs law.fork ≡ []) is law.none_left
 
-not_with_a_prepare_handler_left : KeepsFork script (step_to (in_phase phase.Prepare 1) (what.Forked 2 ∷ []) (at_fork (status.Forking phase.Parent 0 3 2) None)) → ⊥
+not_with_a_prepare_handler_left : KeepsFork script (step_to (in_phase phase.Prepare 1) (what.Forked 2 ∷ []) (at_fork (forking phase.Parent 0 3 2) None)) → ⊥
 not_with_a_prepare_handler_left law = let n : ◌≡◌ {A = ℕ} 1 0 = ap (λ (fs : List ℕ). length fs) (none_left_then _ refl (law.made refl)) in omega (arith, n)
 
-nor_if_it_fails : KeepsFork script (step_to (in_phase phase.Prepare 1) (what.Answer caller.Fork 1 ∷ []) (at_fork (status.Forking phase.Parent 0 3 0) None)) → ⊥
+nor_if_it_fails : KeepsFork script (step_to (in_phase phase.Prepare 1) (what.Answer caller.Fork 1 ∷ []) (at_fork (forking phase.Parent 0 3 0) None)) → ⊥
 nor_if_it_fails law = let n : ◌≡◌ {A = ℕ} 1 0 = ap (λ (fs : List ℕ). length fs) (none_left_then _ refl (law.made refl)) in omega (arith, n)
 
-the_parent_handlers_are_next : ForksWithNoneLeft (step_to (in_phase phase.Prepare 0) (what.Forked 2 ∷ []) (at_fork (status.Forking phase.Parent 1 3 2) None)) → ⊥
+the_parent_handlers_are_next : ForksWithNoneLeft (step_to (in_phase phase.Prepare 0) (what.Forked 2 ∷ []) (at_fork (forking phase.Parent 1 3 2) None)) → ⊥
 the_parent_handlers_are_next law = let n : ◌≡◌ {A = ℕ} 1 0 = ap left_of law.after ∙ law.all_left in omega (arith, n)
 
 returns_with_none_left : KeepsFork script (step_to (in_phase phase.Parent 3) [] returned)

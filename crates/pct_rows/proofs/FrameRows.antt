@@ -13,6 +13,7 @@ use Rattle.pct_model.specs.declared.statement.Stmt.TheVariants as statement
 use Rattle.pct_model.specs.declared.stop.Why.TheVariants as why
 use Rattle.pct_laws.specs.FrameLaw.{KeepsOtherFrames, MovesFrames, Place, StaysInHandler}
 use Rattle.pct_laws.specs.ThreadSteps.{ThreadStep}
+use Rattle.pct_rows.proofs.ExampleScripts.{forking}
 use Rattle.pct_rows.proofs.OnLiterals.{checks_on_literals, runs_on_literals}
 
 -- ---- a script in which `main` calls `work`
@@ -250,15 +251,15 @@ a_call_of_fork_stays : Moves status.Running (main 11 ∷ []) [] (main 11 ∷ [])
 unfolding runs_on_literals
 a_call_of_fork_stays = record { places = refl; arguments = refl }
 
-while_its_handlers_are_called : Moves (status.Forking phase.Prepare 1 1 0) (main 11 ∷ []) (what.PrepareRun 1 ∷ []) (work 0 0 kind.ForkFn ∷ main 11 ∷ [])
+while_its_handlers_are_called : Moves (forking phase.Prepare 1 1 0) (main 11 ∷ []) (what.PrepareRun 1 ∷ []) (work 0 0 kind.ForkFn ∷ main 11 ∷ [])
 unfolding runs_on_literals
 while_its_handlers_are_called = record { places = refl; arguments = refl }
 
-and_a_process_is_made : Moves (status.Forking phase.Prepare 0 1 0) (main 11 ∷ []) (what.Forked 2 ∷ []) (main 11 ∷ [])
+and_a_process_is_made : Moves (forking phase.Prepare 0 1 0) (main 11 ∷ []) (what.Forked 2 ∷ []) (main 11 ∷ [])
 unfolding runs_on_literals
 and_a_process_is_made = record { places = refl; arguments = refl }
 
-until_fork_returns : Moves (status.Forking phase.Parent 1 1 2) (main 11 ∷ []) [] (main 12 ∷ [])
+until_fork_returns : Moves (forking phase.Parent 1 1 2) (main 11 ∷ []) [] (main 12 ∷ [])
 unfolding runs_on_literals
 until_fork_returns = record { places = refl; arguments = refl }
 

@@ -1,9 +1,9 @@
 -- The law of results: made steps that keep it, and made steps that do not. Each step that does not differs from one that does in one thing, and
 -- has the name of the sentence that it breaks.
-use Rattle.pct_names.proofs.Names.{◌<◌, [], and_parts, ap, ap₂, arith, Bool, codes, cond, false, false≢true, first_process, Frame, is_empty}
-use Rattle.pct_names.proofs.Names.{is_static, IsTrue, List, list_all, nat_eq, nat_lt, new_frame, new_shared, new_thread, None, none-some}
-use Rattle.pct_names.proofs.Names.{Option, option_map, Phase, Process, refl, same_Some, Script, slice_index, Some, Status, Stmt, suc, sym}
-use Rattle.pct_names.proofs.Names.{Thread, true, What, zero, ℕ, ◌∙◌, ◌∷◌, ◌≡◌}
+use Rattle.pct_names.proofs.Names.{◌<◌, [], and_parts, ap, ap₂, arith, Bool, codes, cond, false, false≢true, first_process, Frame}
+use Rattle.pct_names.proofs.Names.{is_empty, is_static, IsTrue, List, list_all, nat_eq, nat_lt, new_frame, new_shared, new_thread, None}
+use Rattle.pct_names.proofs.Names.{none-some, Option, option_map, Process, refl, same_Some, Script, slice_index, Some, Status, Stmt, suc}
+use Rattle.pct_names.proofs.Names.{sym, Thread, true, What, zero, ℕ, ◌∙◌, ◌∷◌, ◌≡◌}
 use Rattle.std.proofs.Common.{ne_eqb}
 use Rattle.std.proofs.lemmas.Bool.{ltb-true, true≢false}
 use Rattle.pct_model.specs.declared.event.Caller.TheVariants as caller
@@ -17,6 +17,7 @@ use Rattle.pct_model.specs.declared.statement.Operand.TheVariants as operand
 use Rattle.pct_model.specs.declared.statement.Stmt.TheVariants as statement
 use Rattle.pct_laws.specs.ResultLaw.{KeepsAnswer, Store, after_stores, local_on_top, stored, StoresResults}
 use Rattle.pct_laws.specs.ThreadSteps.{ThreadStep}
+use Rattle.pct_rows.proofs.ExampleScripts.{forking}
 use Rattle.pct_rows.proofs.OnLiterals.{checks_on_literals, runs_on_literals}
 
 -- ---- a script with the global g, whose `main` has the locals x and y
@@ -239,10 +240,6 @@ unfolding runs_on_literals
 no_other_value law = let n : ◌≡◌ {A = ℕ} 0 6 = law.globals 0 in omega (arith, n)
 
 -- ---- fork
-
--- a thread in a phase of a fork, with a next registration, their number, and an answer
-abbrev forking : Phase → (next length answer : ℕ) → Status
-forking phase next length answer = status.Forking (record { phase = phase; next = next; length = length; answer = answer })
 
 the_parent_gets_the_id : StoresResults script (step 7 (forking phase.Parent 0 0 2) [] 2 0 7)
 unfolding runs_on_literals

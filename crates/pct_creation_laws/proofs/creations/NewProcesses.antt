@@ -1,14 +1,13 @@
 -- The law of creation, of processes: a step makes the processes that its events report, and each is a child of the process of its thread,
 -- with the replica of the thread.
 use Rattle.pct_names.proofs.Names.{[], after_transition, All, All-from_recursion, AllByRecursion, ap, Bool, child_by, child_of, cond}
-use Rattle.pct_names.proofs.Names.{Config, drop, Entry, false, false≢true, filter, find, flat_map, Forking, forks_by, holds_slot}
-use Rattle.pct_names.proofs.Names.{in_child, inherited, is_ended_status, is_last, is_live_thread, Legal, length, List}
-use Rattle.pct_names.proofs.Names.{list_all, list_any, made_process, map, nat_eq, NextStatement, None, none-some, not, Option, Others}
-use Rattle.pct_names.proofs.Names.{Prepare, Process, process_moved, refl, replica_of, Run, run, Script, SharedState, Some, Status}
-use Rattle.pct_names.proofs.Names.{step, Stmt, subst, sym, take, Thread, Transition, transition_by, true, What, with_id, ℕ, ◌&&◌, ◌++◌}
-use Rattle.pct_names.proofs.Names.{◌||◌, ◌∙◌, ◌∷◌, ◌≡◌}
+use Rattle.pct_names.proofs.Names.{Config, drop, Entry, false, false≢true, filter, find, flat_map, ForkAt, Forking, forks_by, holds_slot, in_child}
+use Rattle.pct_names.proofs.Names.{inherited, is_ended_status, is_last, is_live_thread, Legal, length, List, list_all, list_any}
+use Rattle.pct_names.proofs.Names.{made_process, map, nat_eq, NextStatement, None, none-some, not, Option, Others, Phase, Prepare, Process}
+use Rattle.pct_names.proofs.Names.{process_moved, refl, replica_of, Run, run, Script, SharedState, Some, Status, step, Stmt, subst, sym}
+use Rattle.pct_names.proofs.Names.{take, Thread, Transition, transition_by, true, What, with_id, ℕ, ◌&&◌, ◌++◌, ◌||◌, ◌∙◌, ◌∷◌, ◌≡◌}
 use Rattle.std.proofs.Common.{eqb-true, eq-eqb}
-use Rattle.pct_laws.specs.CreationLaw.{CreatesProcesses, IsChild, is_another, process_of, status_in_child}
+use Rattle.pct_laws.specs.CreationLaw.{CreatesProcesses, IsChild, is_another, process_of, status_in_child, status_in_child_by}
 use Rattle.pct_laws.specs.ProcessSteps.{EachStepOfProcesses}
 use Rattle.pct_laws.specs.ThreadSteps.{ThreadStep}
 use Rattle.pct_transition_cases.proofs.TransitionCases.{TransitionCase, fork_handler_called, process_forked}
@@ -35,7 +34,7 @@ use Rattle.pct_creation_laws.proofs.creations.NewItems.{first_items, new_items}
 case_quiet : {passes : ℕ} {body : List Stmt} {shared : SharedState} {t : Thread} {others : Others} {next : NextStatement} {s : Status} {o : Transition} → TransitionCase passes body shared t others true next s o
     → (tid : ℕ) (p : Process) → child_by tid p o.process ≡ [] → flat_map process_of o.events ≡ []
 unfolding child_by
-case_quiet (process_forked next index length answer new is) tid p none = absurd (cc)
+case_quiet (process_forked next at new prepares is) tid p none = absurd (cc)
 case_quiet (fork_handler_called next at call is) tid p none = of_each_phase (λ (w : What). flat_map process_of (w ∷ []) ≡ []) call.func refl refl refl at.phase
 case_quiet _ tid p none = refl
 
@@ -109,10 +108,10 @@ module _ (test other : Thread → Bool) where
 
 -- a step of a thread in fork makes a child of its process
 child_lawful : (s : ThreadStep) (new : ℕ) → s.process.pid ≡ s.pid → AreDistinct (ids_of s.process.threads) → with_id s.tid s.process.threads ≡ Some s.before
-    → not (is_last s.tid s.process.threads) ≡ list_any (is_another s.tid) s.process.threads → {index count answer : ℕ} → s.before.status ≡ Forking Prepare index count answer
+    → not (is_last s.tid s.process.threads) ≡ list_any (is_another s.tid) s.process.threads → (at : ForkAt) → s.before.status ≡ Forking at → at.phase ≡ Prepare
     → IsChild s (child_of s.tid new s.process)
 unfolding child_of
-child_lawful s new pid distinct is others forking = record {
+child_lawful s new pid distinct is others at forking prepares = record {
   parent = pid;
   runs = refl;
   copy = ap (λ (b : Bool). record s.process.shared { exit_value = None; restricted = b }) others;
@@ -121,7 +120,7 @@ child_lawful s new pid distinct is others forking = record {
   is_replica = record {
     id = refl;
     frames = refl;
-    in_fork = ap status_in_child forking ∙ ap (λ (x : Status). Some (in_child x)) (sym forking);
+    in_fork = ap status_in_child forking ∙ ap (λ (x : Phase). status_in_child_by x at.length) prepares ∙ ap (λ (x : Status). Some (in_child x)) (sym forking);
     handlers = refl;
     state = refl;
     mode = refl;
@@ -162,7 +161,7 @@ module _ (script : Script) (config : Config) where
       new_lawful : {made_id : Option ℕ} → Makes r.world t.status o made_id → Lawful (child_made e.tid p made_id)
       unfolding forks_by child_of
       new_lawful (makes_none nothing quiet) = (sym (case_quiet (case_of_step script config r.world p e t moves) e.tid p (nothing e.tid p)), tt)
-      new_lawful (forks new fork) = (ap (λ (x : Transition). flat_map process_of x.events) (sym fork.is), (child_lawful made new (eqb-true p.pid e.pid (found_passes (λ (q : Process). nat_eq q.pid e.pid) r.world.processes p process_is)) moves.ids.distinct taken.is_thread others_are fork.in_fork, tt))
+      new_lawful (forks new fork) = (ap (λ (x : Transition). flat_map process_of x.events) (sym fork.is), (child_lawful made new (eqb-true p.pid e.pid (found_passes (λ (q : Process). nat_eq q.pid e.pid) r.world.processes p process_is)) moves.ids.distinct taken.is_thread others_are fork.at fork.in_fork fork.prepares, tt))
 
       processes_of_step : CreatesProcesses made r.world.processes (after_transition e.pid e.tid o r.world).processes
       processes_of_step =

@@ -1,10 +1,9 @@
 -- The law of fork handlers, of each step of a run.
-use Rattle.pct_names.proofs.Names.{[], All-from_recursion, AllByRecursion, ap, body_at, Bool, cond, Config, ends, Entry, false}
-use Rattle.pct_names.proofs.Names.{false≢true, ForkAt, handler_event, in_fork, inl, inr, is_forking, is_live_thread, is_some}
-use Rattle.pct_names.proofs.Names.{List, list_any, moved, next_of, None, none-some, option_and_then, or_parts, Others, others_of}
-use Rattle.pct_names.proofs.Names.{Parent, Phase, Prepare, Process, refl, Run, run, same_Some, Script, Some, Status, subst, sym, Thread}
-use Rattle.pct_names.proofs.Names.{thread_moved, thread_with, Transition, transition_by, true, What, while_called, ℕ, ◌∙◌, ◌∷◌, ◌≡◌}
-use Rattle.pct_names.proofs.Names.{◌≢◌, ◌⊎◌}
+use Rattle.pct_names.proofs.Names.{[], All-from_recursion, AllByRecursion, ap, body_at, Bool, cond, Config, ends, Entry, false, false≢true}
+use Rattle.pct_names.proofs.Names.{ForkAt, handler_event, inl, inr, is_forking, is_live_thread, is_some, List, list_any, moved, next_of}
+use Rattle.pct_names.proofs.Names.{None, none-some, option_and_then, or_parts, Others, others_of, Parent, Phase, Prepare, Process, refl}
+use Rattle.pct_names.proofs.Names.{Run, run, same_Some, Script, Some, Status, subst, sym, Thread, thread_moved, thread_with, Transition}
+use Rattle.pct_names.proofs.Names.{transition_by, true, What, while_called, ℕ, ◌∙◌, ◌∷◌, ◌≡◌, ◌≢◌, ◌⊎◌}
 use Rattle.pct_model.specs.declared.event.What.TheVariants as what
 use Rattle.pct_model.specs.declared.state.Phase.TheVariants as phase
 use Rattle.pct_laws.specs.ForkLaw.{is_handler_call, CallsHandler, EachHandler, fork_by, fork_of, ForksWithNoneLeft, KeepsFork, left_to_call}

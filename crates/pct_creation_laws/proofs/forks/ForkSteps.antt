@@ -1,11 +1,11 @@
 -- What a transition does to the fork of its thread.
-use Rattle.pct_names.proofs.Names.{[], acts_on_request, acts_or, Alt, ap, begins_fork, Bool, calls, calls_handler, cond, Dest}
-use Rattle.pct_names.proofs.Names.{false, false≢true, ForkAt, ForkHandlers, Forking, forks_by, Frame, goes_on_after_handlers}
-use Rattle.pct_names.proofs.Names.{goes_on_forking, handler_event, HandlerCall, inl, inr, is_forking, is_some, length, List, list_any}
-use Rattle.pct_names.proofs.Names.{moved, next_handler, NextStatement, no_change, None, none-some, NoStatement, Option, Others}
-use Rattle.pct_names.proofs.Names.{own_after, OwnAction, Parent, Phase, Prepare, refl, Running, runs, SharedState, Some, StatementIn}
-use Rattle.pct_names.proofs.Names.{Status, Stmt, stop_at, stops_or, suc, sym, Thread, thread_at, Transition, transition_at, true, value}
-use Rattle.pct_names.proofs.Names.{What, while_called, Why, ℕ, ◌∙◌, ◌∷◌, ◌≡◌, ◌≢◌, ◌⊎◌}
+use Rattle.pct_names.proofs.Names.{[], acts_on_request, acts_or, Alt, ap, begins_fork, Bool, calls, calls_handler, cond, Dest, false}
+use Rattle.pct_names.proofs.Names.{false≢true, ForkAt, ForkHandlers, Forking, forks_by, Frame, goes_on_after_handlers, goes_on_forking}
+use Rattle.pct_names.proofs.Names.{handler_event, HandlerCall, inl, inr, is_forking, is_some, length, List, list_any, moved, next_handler}
+use Rattle.pct_names.proofs.Names.{NextStatement, no_change, None, none-some, NoStatement, Option, Others, own_after, OwnAction, Parent}
+use Rattle.pct_names.proofs.Names.{Phase, Prepare, refl, Running, runs, SharedState, Some, StatementIn, Status, Stmt, stop_at, stops_or}
+use Rattle.pct_names.proofs.Names.{suc, sym, Thread, thread_at, Transition, transition_at, true, value, What, while_called, Why, ℕ, ◌∙◌}
+use Rattle.pct_names.proofs.Names.{◌∷◌, ◌≡◌, ◌≢◌, ◌⊎◌}
 use Rattle.pct_model.specs.declared.schedule.Alt.TheVariants as alt
 use Rattle.pct_model.specs.declared.state.Phase.TheVariants as phase
 use Rattle.pct_model.specs.declared.state.Status.TheVariants as status
@@ -15,20 +15,20 @@ use Rattle.pct_laws.specs.CancelLaw.{acts_or_stops}
 use Rattle.pct_laws.specs.ForkLaw.{is_handler_call, fork_by, fork_of}
 use Rattle.pct_laws.specs.Kept.{is_in_fork_handler}
 use Rattle.pct_laws.specs.ResultLaw.{answer_in, calls_fork}
-use Rattle.pct_transition_cases.proofs.TransitionCases.{TransitionCase, fork_begun, fork_failed, fork_handler_called, fork_handler_left, fork_returned}
-use Rattle.pct_transition_cases.proofs.TransitionCases.{process_forked, process_not_forked, rests}
+use Rattle.pct_transition_cases.proofs.TransitionCases.{TransitionCase, fork_begun, fork_failed, fork_handler_called, fork_handler_left}
+use Rattle.pct_transition_cases.proofs.TransitionCases.{fork_returned, process_forked, process_not_forked, rests}
 use Rattle.pct_thread_invariants.proofs.lift.HandlerEvents.{of_each_phase}
 
 -- ---- the values that are kept for a fork
 
 -- a thread that is in fork has no values that are kept for one of its handlers
 abbrev pub HasNone : Status → Option ForkAt → Type 0
-HasNone (status.Forking at next length answer) kept = kept ≡ None
+HasNone (status.Forking at) kept = kept ≡ None
 HasNone _ kept = Unit {0}
 
 pub has_none : (s : Status) (frames : List Frame) (kept : Option ForkAt) → is_some kept ≡ is_in_fork_handler s frames → HasNone s kept
-has_none (status.Forking at next length answer) frames None is = refl
-has_none (status.Forking at next length answer) frames (Some fork) is = absurd (false≢true (sym is))
+has_none (status.Forking at) frames None is = refl
+has_none (status.Forking at) frames (Some fork) is = absurd (false≢true (sym is))
 has_none _ frames kept is = tt
 
 -- after the action, if there is one, the thread is in no fork
@@ -43,9 +43,9 @@ leaves_fork _ = false
 
 -- a thread in fork that makes no change calls a handler, or has none left, and then makes a process or returns
 abbrev GoesOn : List ForkHandlers → Status → Transition → Type 0
-GoesOn registered (status.Forking at next length answer) o =
+GoesOn registered (status.Forking at) o =
     (o ≡ no_change) ⊎ (list_any is_handler_call o.events ≡ true)
-    ⊎ ((next_handler registered (record { phase = at; next = next; length = length; answer = answer }) ≡ None) × (at ≡ phase.Prepare → is_some (answer_in o.events) ≡ true))
+    ⊎ ((next_handler registered at ≡ None) × (at.phase ≡ phase.Prepare → is_some (answer_in o.events) ≡ true))
 GoesOn registered _ o = Unit {0}
 
 module _ (passes : ℕ) (body : List Stmt) (shared : SharedState) (t : Thread) (others : Others) where
@@ -57,17 +57,17 @@ module _ (passes : ℕ) (body : List Stmt) (shared : SharedState) (t : Thread) (
   none_goes_on phase.Parent fork new_pid next is = absurd (cc)
   none_goes_on phase.Child fork new_pid next is = absurd (cc)
 
-  by_handler : (at : Phase) (next length answer : ℕ) (statement : NextStatement) (found : Option HandlerCall) → next_handler shared.fork_handlers (record { phase = at; next = next; length = length; answer = answer }) ≡ found
-      → GoesOn shared.fork_handlers (status.Forking at next length answer) (goes_on_forking found (record { phase = at; next = next; length = length; answer = answer }) others.family.new_pid statement)
+  by_handler : (at : ForkAt) (next : NextStatement) (found : Option HandlerCall) → next_handler shared.fork_handlers at ≡ found
+      → GoesOn shared.fork_handlers (status.Forking at) (goes_on_forking found at others.family.new_pid next)
   unfolding calls_handler
-  by_handler at next length answer statement (Some call) is = inr (inl (of_each_phase (λ (w : What). list_any is_handler_call (w ∷ []) ≡ true) call.func refl refl refl at))
-  by_handler at next length answer statement None is = inr (inr (is, none_goes_on at (record { phase = at; next = next; length = length; answer = answer }) others.family.new_pid statement))
+  by_handler at next (Some call) is = inr (inl (of_each_phase (λ (w : What). list_any is_handler_call (w ∷ []) ≡ true) call.func refl refl refl at.phase))
+  by_handler at next None is = inr (inr (is, none_goes_on at.phase at others.family.new_pid next))
 
   pub goes_on_by : (choice : Alt) (next : NextStatement) (s : Status) → GoesOn shared.fork_handlers s (acts_or choice s (transition_at passes body shared t others choice next s))
   unfolding transition_at acts_on_request
-  goes_on_by (alt.Act n) next (status.Forking at index length answer) = inl refl
-  goes_on_by choice NoStatement (status.Forking at index length answer) = by_handler at index length answer NoStatement (next_handler shared.fork_handlers (record { phase = at; next = index; length = length; answer = answer })) refl
-  goes_on_by choice (StatementIn frame s) (status.Forking at index length answer) = by_handler at index length answer (StatementIn frame s) (next_handler shared.fork_handlers (record { phase = at; next = index; length = length; answer = answer })) refl
+  goes_on_by (alt.Act n) next (status.Forking at) = inl refl
+  goes_on_by choice NoStatement (status.Forking at) = by_handler at NoStatement (next_handler shared.fork_handlers at) refl
+  goes_on_by choice (StatementIn frame s) (status.Forking at) = by_handler at (StatementIn frame s) (next_handler shared.fork_handlers at) refl
   goes_on_by choice next _ = tt
 
   -- ---- a call of fork
@@ -104,11 +104,11 @@ module _ (passes : ℕ) (body : List Stmt) (shared : SharedState) (t : Thread) (
         → (at.phase ≢ phase.Prepare) → next_handler shared.fork_handlers at ≡ None → ForkStep next s events before after
 
   -- where a thread in fork has made a change and has called no handler, none is left
-  none_if : (at : Phase) (next length answer : ℕ) (o : Transition) → (o ≡ no_change → ⊥) → list_any is_handler_call o.events ≡ false → GoesOn shared.fork_handlers (status.Forking at next length answer) o
-      → (next_handler shared.fork_handlers (record { phase = at; next = next; length = length; answer = answer }) ≡ None) × (at ≡ phase.Prepare → is_some (answer_in o.events) ≡ true)
-  none_if at next length answer o changes quiet (inl same) = absurd (changes same)
-  none_if at next length answer o changes quiet (inr (inl call)) = absurd (false≢true (sym quiet ∙ call))
-  none_if at next length answer o changes quiet (inr (inr left)) = left
+  none_if : (at : ForkAt) (o : Transition) → (o ≡ no_change → ⊥) → list_any is_handler_call o.events ≡ false → GoesOn shared.fork_handlers (status.Forking at) o
+      → (next_handler shared.fork_handlers at ≡ None) × (at.phase ≡ phase.Prepare → is_some (answer_in o.events) ≡ true)
+  none_if at o changes quiet (inl same) = absurd (changes same)
+  none_if at o changes quiet (inr (inl call)) = absurd (false≢true (sym quiet ∙ call))
+  none_if at o changes quiet (inr (inr left)) = left
 
   -- a transition that goes on at a pc, or has an event, changes something
   goes_somewhere : (pc : ℕ) (o : Transition) → o.next ≡ Some pc → o ≡ no_change → ⊥
@@ -124,16 +124,12 @@ module _ (passes : ℕ) (body : List Stmt) (shared : SharedState) (t : Thread) (
   fork_step (fork_begun frame result child unbegun) none goes = fork_begins refl refl refl
   fork_step (fork_handler_called next at call is) none goes = handler_called at call refl refl refl is
   fork_step (fork_handler_left frame s v at returned is kept) none goes = fork_stays false (λ forks. refl) refl refl (sym kept)
-  fork_step {o = o} (process_forked next index length answer new is) none goes =
-      fork_made (record { phase = phase.Prepare; next = index; length = length; answer = answer }) new refl refl refl refl refl
-      (none_if phase.Prepare index length answer o (has_event o refl) refl goes).0
-  fork_step {o = o} (process_not_forked next index length answer) none goes =
-      fork_made (record { phase = phase.Prepare; next = index; length = length; answer = answer }) 0 refl refl refl refl refl
-      (none_if phase.Prepare index length answer o (has_event o refl) refl goes).0
-  fork_step {o = o} (fork_failed frame result child index length pid) none goes =
-      let left = none_if phase.Parent index length pid o (goes_somewhere (suc frame.pc) o refl) refl goes in
-      fork_returns (record { phase = phase.Parent; next = index; length = length; answer = pid }) refl refl refl none (λ is. absurd (false≢true (left.1 is))) left.0
-  fork_step {o = o} (fork_returned frame result child at index length pid value) none goes =
-      let left = none_if at index length pid o (goes_somewhere (suc frame.pc) o refl) refl goes in
-      fork_returns (record { phase = at; next = index; length = length; answer = pid }) refl refl refl none (λ is. absurd (false≢true (left.1 is))) left.0
+  fork_step {o = o} (process_forked next at new prepares is) none goes = fork_made at new refl refl refl refl prepares (none_if at o (has_event o refl) refl goes).0
+  fork_step {o = o} (process_not_forked next at prepares) none goes = fork_made at 0 refl refl refl refl prepares (none_if at o (has_event o refl) refl goes).0
+  fork_step {o = o} (fork_failed frame result child at returns) none goes =
+      let left = none_if at o (goes_somewhere (suc frame.pc) o refl) refl goes in
+      fork_returns at refl refl refl none (λ is. absurd (false≢true (left.1 is))) left.0
+  fork_step {o = o} (fork_returned frame result child at value) none goes =
+      let left = none_if at o (goes_somewhere (suc frame.pc) o refl) refl goes in
+      fork_returns at refl refl refl none (λ is. absurd (false≢true (left.1 is))) left.0
   fork_step {o = o} _ none goes = fork_stays (leaves_fork o.own) (λ forks. absurd (false≢true forks)) refl refl refl

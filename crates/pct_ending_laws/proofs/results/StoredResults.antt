@@ -1,14 +1,14 @@
 -- The law of results: what each step of a run stores is what its statement stores, by the table.
 use Rattle.pct_names.proofs.Names.{◌&&◌, ◌-◌, [], acts_on_request, acts_or, adds, Alt, ap, ap₂, arith, at_pc, body_at, Bool, calls_handler}
-use Rattle.pct_names.proofs.Names.{choices_at, cond, Config, Dest, drop, drop_all, encode, Entry, false, false≢true, forks_by, Frame}
-use Rattle.pct_names.proofs.Names.{frames_written, gets_self, gets_specific, goes_on, goes_on_forking, handler_event, HandlerCall}
-use Rattle.pct_names.proofs.Names.{has_no_frame, is_forking, is_live_thread, length, length-map, List, MAX_FORK_HANDLERS, may_register}
-use Rattle.pct_names.proofs.Names.{moved, nat_eq, nat_lt, next_of, NextStatement, None, NoStatement, not, offers, Option, option_map}
-use Rattle.pct_names.proofs.Names.{Others, others_of, own_after, OwnAction, Parent, Phase, Prepare, Process, refl, registers_fork}
-use Rattle.pct_names.proofs.Names.{registers_if, returns_in_child, returns_in_parent, Run, run, runs, Script, sets, SharedState}
-use Rattle.pct_names.proofs.Names.{slice_index, Some, StatementIn, Status, Stmt, stop_at, stops_or, subst, suc, sym, syntax_of, Thread}
-use Rattle.pct_names.proofs.Names.{thread_at, thread_moved, Transition, transition_at, transition_by, true, What, Why, without_first}
-use Rattle.pct_names.proofs.Names.{written, ◌||◌, ℕ, ◌∙◌, ◌∷◌, ◌≡◌}
+use Rattle.pct_names.proofs.Names.{choices_at, cond, Config, Dest, drop, drop_all, EAGAIN, encode, Entry, false, false≢true, ForkAt}
+use Rattle.pct_names.proofs.Names.{forks_by, Frame, frames_written, gets_self, gets_specific, goes_on, goes_on_after_handlers}
+use Rattle.pct_names.proofs.Names.{goes_on_forking, handler_event, HandlerCall, has_no_frame, is_forking, is_live_thread, length}
+use Rattle.pct_names.proofs.Names.{length-map, List, MAX_FORK_HANDLERS, may_register, moved, nat_eq, nat_lt, next_of, NextStatement, None}
+use Rattle.pct_names.proofs.Names.{NoStatement, not, offers, Option, option_map, Others, others_of, own_after, OwnAction, Parent, Phase}
+use Rattle.pct_names.proofs.Names.{Prepare, Process, refl, registers_fork, registers_if, returns_in_child, returns_in_parent, Run, run}
+use Rattle.pct_names.proofs.Names.{runs, Script, sets, SharedState, slice_index, Some, StatementIn, Status, Stmt, stop_at, stops_or, subst}
+use Rattle.pct_names.proofs.Names.{suc, sym, syntax_of, Thread, thread_at, thread_moved, Transition, transition_at, transition_by, true}
+use Rattle.pct_names.proofs.Names.{What, Why, without_first, written, ◌||◌, ℕ, ◌∙◌, ◌∷◌, ◌≡◌}
 use Rattle.std.proofs.lemmas.Bool.{cond_both, true≢false}
 use Rattle.std.proofs.lemmas.List.{drop-map}
 use Rattle.pct_model.specs.declared.event.Caller.TheVariants as caller
@@ -21,10 +21,12 @@ use Rattle.pct_model.specs.declared.statement.Stmt.TheVariants as statement
 use Rattle.pct_model.specs.declared.transition.OwnAction.TheVariants as own_action
 use Rattle.pct_model.specs.LineParsing.{is_empty}
 use Rattle.pct_laws.specs.CancelLaw.{acts_or_stops}
-use Rattle.pct_laws.specs.ResultLaw.{all_locals, left_of, Store, stored_at, stored_by_fork, stored_by, stored, after_stores, local_on_top, StoresResults}
+use Rattle.pct_laws.specs.ResultLaw.{all_locals, left_of, Store, stored_at, stored_by_fork, stored_by, stored, after_stores, local_on_top}
+use Rattle.pct_laws.specs.ResultLaw.{StoresResults}
 use Rattle.pct_transition_cases.proofs.TransitionCases.{TransitionCase, Leads, Returns, past_if, by_return, by_end, rests, jumped}
 use Rattle.pct_transition_cases.proofs.TransitionCases.{main_returned, start_returned, call_left, handler_left, exit_function_left}
-use Rattle.pct_transition_cases.proofs.TransitionCases.{fork_handler_called, fork_handler_left, fork_failed, fork_returned}
+use Rattle.pct_transition_cases.proofs.TransitionCases.{fork_handler_called, fork_handler_left, process_forked, process_not_forked}
+use Rattle.pct_transition_cases.proofs.TransitionCases.{fork_failed, fork_returned}
 use Rattle.pct_transition_cases.proofs.PlacedStatements.{IsPlaced, is_placed}
 use Rattle.pct_thread_invariants.proofs.ThreadsOfRun.{threads_kept}
 use Rattle.pct_thread_invariants.proofs.lift.ChangedThreads.{either_keeps, named_keeps, changed_shared}

@@ -3,15 +3,16 @@ use Rattle.pct_names.proofs.Names.{◌++◌, [], acts_on_request, acts_or, adds,
 use Rattle.pct_names.proofs.Names.{begins_waitpid, Bool, broadcasts, calls, calls_handler, calls_point, choices_at, cond, creates}
 use Rattle.pct_names.proofs.Names.{creates_by, creates_key, creates_key_by, deletes_key, Dest, detaches, emits, ends_block, ends_by_exit}
 use Rattle.pct_names.proofs.Names.{ends_join, ends_now, exit_value_with, exits, fails_to_create, fails_to_create_key, false, false≢true}
-use Rattle.pct_names.proofs.Names.{finds_no_child, ForkAt, forks_by, Frame, FrameKind, gets_self, gets_specific, go_if, goes_on_forking}
-use Rattle.pct_names.proofs.Names.{HandlerCall, hands_on, has_no_frame, is_deliverable, is_fork_kind, is_free_mutex, is_none, is_some}
-use Rattle.pct_names.proofs.Names.{joins_at, jumps, leaves_handler, leaves_wait, length, List, locks, MAX_FORK_HANDLERS, may_register}
-use Rattle.pct_names.proofs.Names.{nat_eq, nat_lt, NextStatement, None, NoStatement, not, offers, open_of, Operand, Option, Optional}
-use Rattle.pct_names.proofs.Names.{Others, Parent, passes_point, Phase, point_kind, PointKind, pops, posts, Prepare, pushes, Reacquire}
-use Rattle.pct_names.proofs.Names.{reacquires, reaps, reaps_if, refl, registers_fork, registers_if, requests, Required, returns_by}
-use Rattle.pct_names.proofs.Names.{returns_in_child, returns_in_parent, runs, sets, sets_mode, sets_specific, sets_state, SharedState}
-use Rattle.pct_names.proofs.Names.{signals_by, Some, StatementIn, Status, Stmt, stop_at, stops_or, subst, suc, sym, takes, tests_cancel}
-use Rattle.pct_names.proofs.Names.{Thread, Transition, transition_at, true, unlocks, waits_at, Why, ℕ, ◌∙◌, ◌∷◌, ◌≡◌}
+use Rattle.pct_names.proofs.Names.{finds_no_child, ForkAt, forks_by, Frame, FrameKind, gets_self, gets_specific, go_if}
+use Rattle.pct_names.proofs.Names.{goes_on_after_handlers, goes_on_forking, HandlerCall, hands_on, has_no_frame, is_deliverable}
+use Rattle.pct_names.proofs.Names.{is_fork_kind, is_free_mutex, is_none, is_some, joins_at, jumps, leaves_handler, leaves_wait, length}
+use Rattle.pct_names.proofs.Names.{List, locks, MAX_FORK_HANDLERS, may_register, nat_eq, nat_lt, NextStatement, None, NoStatement, not}
+use Rattle.pct_names.proofs.Names.{offers, open_of, Operand, Option, Optional, Others, Parent, passes_point, Phase, point_kind, PointKind}
+use Rattle.pct_names.proofs.Names.{pops, posts, Prepare, pushes, Reacquire, reacquires, reaps, reaps_if, refl, registers_fork}
+use Rattle.pct_names.proofs.Names.{registers_if, requests, Required, returns_by, returns_in_child, returns_in_parent, runs, sets}
+use Rattle.pct_names.proofs.Names.{sets_mode, sets_specific, sets_state, SharedState, signals_by, Some, StatementIn, Status, Stmt, stop_at}
+use Rattle.pct_names.proofs.Names.{stops_or, subst, suc, sym, takes, tests_cancel, Thread, Transition, transition_at, true, unlocks}
+use Rattle.pct_names.proofs.Names.{waits_at, Why, ℕ, ◌∙◌, ◌∷◌, ◌≡◌}
 use Rattle.std.specs.Option.{option_map_or}
 use Rattle.std.proofs.lemmas.Bool.{true≢false}
 use Rattle.pct_model.specs.declared.process.Child.{Child}
@@ -156,15 +157,19 @@ module _ (passes : ℕ) (body : List Stmt) (shared : SharedState) (t : Thread) (
   fork_by (Some pid) length = refl
   fork_by None length = refl
 
-  fork_busy : (found : Option HandlerCall) (phase : Phase) (index length answer : ℕ) (new : Option ℕ) (next : NextStatement) → IsSuspendedAt next (status.Forking phase index length answer)
-      → DoesSome (goes_on_forking found (record { phase = phase; next = index; length = length; answer = answer }) new next)
-  unfolding calls_handler returns_in_parent returns_in_child
-  fork_busy (Some call) phase index length answer new next at = refl
-  fork_busy None Prepare index length answer new next at = fork_by new length
-  fork_busy None Parent index length answer new (StatementIn frame (statement.Fork result child)) at = either_does (nat_eq answer 0) _ _ refl refl
-  fork_busy None Parent index length answer new _ at = absurd (false≢true at)
-  fork_busy None ChildPhase index length answer new (StatementIn frame (statement.Fork result child)) at = refl
-  fork_busy None ChildPhase index length answer new _ at = absurd (false≢true at)
+  -- where no handler of the phase is left
+  after_handlers_busy : (phase : Phase) (fork : ForkAt) (new : Option ℕ) (next : NextStatement) → IsSuspendedAt next (status.Forking fork) → DoesSome (goes_on_after_handlers phase fork new next)
+  unfolding returns_in_parent returns_in_child
+  after_handlers_busy Prepare fork new next at = fork_by new fork.length
+  after_handlers_busy Parent fork new (StatementIn frame (statement.Fork result child)) at = either_does (nat_eq fork.answer 0) _ _ refl refl
+  after_handlers_busy Parent fork new _ at = absurd (false≢true at)
+  after_handlers_busy ChildPhase fork new (StatementIn frame (statement.Fork result child)) at = refl
+  after_handlers_busy ChildPhase fork new _ at = absurd (false≢true at)
+
+  fork_busy : (found : Option HandlerCall) (fork : ForkAt) (new : Option ℕ) (next : NextStatement) → IsSuspendedAt next (status.Forking fork) → DoesSome (goes_on_forking found fork new next)
+  unfolding calls_handler
+  fork_busy (Some call) fork new next at = refl
+  fork_busy None fork new next at = after_handlers_busy fork.phase fork new next at
 
   -- a thread that acted upon a request in its wait acts upon no other one
   acts_once : (free delivered : Bool) (n : ℕ) → offers (go_if free ++ cond delivered [] []) (alt.Act n) ≡ false
@@ -190,7 +195,7 @@ module _ (passes : ℕ) (body : List Stmt) (shared : SharedState) (t : Thread) (
   act_busy n next (status.Reacquire c m cause.Signalled) offered inside = either_does (nat_eq n 0) _ _ refl refl
   act_busy n next (status.Reacquire c m cause.Broadcast) offered inside = refl
   act_busy n next (status.Reacquire c m cause.Canceled) offered inside = absurd (true≢false (sym offered ∙ acts_once (is_free_mutex m shared) (is_deliverable t.state t.pending) n))
-  act_busy n next (status.Forking phase index length answer) offered inside = absurd (false≢true offered)
+  act_busy n next (status.Forking at) offered inside = absurd (false≢true offered)
   act_busy n next _ offered inside = absurd (true≢false inside)
 
   go_busy : (choice : Alt) (next : NextStatement) (s : Status) → Offered shared t others next s choice → is_acting choice ≡ false → IsBusy t.handlers t.kept s next → has_no_frame s ≡ false
@@ -209,7 +214,7 @@ module _ (passes : ℕ) (body : List Stmt) (shared : SharedState) (t : Thread) (
   go_busy choice next (status.Reacquire c m cause.Canceled) may other at inside some = refl
   go_busy choice (StatementIn frame (statement.CondWait cond mutex)) (status.Reacquire c m _) may other at inside some = refl
   go_busy choice _ (status.Reacquire c m why) may other at inside some = absurd (false≢true at)
-  go_busy choice next (status.Forking phase index length answer) may other at inside some = fork_busy _ phase index length answer others.family.new_pid next at
+  go_busy choice next (status.Forking fork) may other at inside some = fork_busy _ fork others.family.new_pid next at
   go_busy choice next _ may other at inside some = absurd (true≢false inside)
 
   -- a running thread has a next statement

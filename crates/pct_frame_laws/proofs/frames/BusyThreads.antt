@@ -1,10 +1,10 @@
 -- After every run a thread that is in a function is busy: it has what its next statement asks of it. A script that passes the checks has a push for
 -- each pop, and names no other points than those of the table.
 use Rattle.pct_names.proofs.Names.{◌++◌, [], and_parts, ap, body_of, encode, exits, false, false≢true, ForkAt, Frame, has_first_word}
-use Rattle.pct_names.proofs.Names.{has_line, has_no_frame, inl, inr, is_fork_kind, is_some, length, List, map, nat_eq, next_of}
-use Rattle.pct_names.proofs.Names.{NextStatement, None, none-some, Operand, Option, option_map, point_kind, point_name, point_of}
-use Rattle.pct_names.proofs.Names.{point_statement, PointKind, points, Reacquire, Reason, refl, Script, slice_get, Some, statement_at}
-use Rattle.pct_names.proofs.Names.{StatementIn, Status, Stmt, suc, sym, syntax_of, true, ℕ, ◌∙◌, ◌∷◌, ◌≡◌}
+use Rattle.pct_names.proofs.Names.{has_line, has_no_frame, inl, inr, is_fork_kind, is_some, List, map, nat_eq, next_of, NextStatement}
+use Rattle.pct_names.proofs.Names.{None, none-some, Operand, Option, option_map, point_kind, point_name, point_of, point_statement}
+use Rattle.pct_names.proofs.Names.{PointKind, points, Reacquire, Reason, refl, Script, slice_get, Some, statement_at, StatementIn, Status}
+use Rattle.pct_names.proofs.Names.{Stmt, suc, sym, syntax_of, true, ℕ, ◌∙◌, ◌∷◌, ◌≡◌}
 use Rattle.std.specs.Option.{option_map_or}
 use Rattle.std.proofs.lemmas.Bool.{true≢false}
 use Rattle.pct_model.specs.declared.state.Status.TheVariants as status
@@ -81,7 +81,7 @@ module _ (script : Script) where
   any_busy (status.InWaitPid pid) frames why handlers kept reported (inl fits) keeps = fits.1
   any_busy (status.Waiting c m) frames why handlers kept reported (inl fits) keeps = fits.1
   any_busy (status.Reacquire c m cause) frames why handlers kept reported (inl fits) keeps = fits.1
-  any_busy (status.Forking phase index length answer) frames why handlers kept reported (inl fits) keeps = fits.1
+  any_busy (status.Forking at) frames why handlers kept reported (inl fits) keeps = fits.1
   any_busy status.Ending frames why handlers kept reported by keeps = tt
   any_busy (status.Ended v) frames why handlers kept reported by keeps = tt
   any_busy status.Exiting frames why handlers kept reported by keeps = tt

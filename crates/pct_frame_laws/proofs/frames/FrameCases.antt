@@ -1,6 +1,6 @@
 -- What each case of a transition does to the frames of its thread is what the law has.
 use Rattle.pct_names.proofs.Names.{◌&&◌, ◌++◌, [], acts, ap, Bool, cond, false, ForkAt, Frame, goes_on, handler_event, HandlerCall}
-use Rattle.pct_names.proofs.Names.{has_no_frame, in_fork, is_none, List, list_any, NextStatement, NoStatement, Option, Others, refl, Script}
+use Rattle.pct_names.proofs.Names.{has_no_frame, is_none, List, list_any, NextStatement, NoStatement, Option, Others, refl, Script}
 use Rattle.pct_names.proofs.Names.{SharedState, Some, StatementIn, Status, Stmt, suc, sym, Thread, Transition, true, What, while_called}
 use Rattle.pct_names.proofs.Names.{◌||◌, ℕ, ◌∷◌, ◌≡◌}
 use Rattle.std.proofs.lemmas.Bool.{false≢true, true≢false}
@@ -57,9 +57,9 @@ module _ (body : List Stmt) (shared : SharedState) where
 
   -- the call of a fork handler, in each phase
   handler_called : (frames : List Frame) (next : NextStatement) (at : ForkAt) (call : HandlerCall)
-      → LeavesIts frames next (in_fork at) (record (acts (handler_event at.phase call.func ∷ [])) { own = Some (own_action.CallForkHandler (while_called at call.index) call.func) })
+      → LeavesIts frames next (status.Forking at) (record (acts (handler_event at.phase call.func ∷ [])) { own = Some (own_action.CallForkHandler (while_called at call.index) call.func) })
   handler_called frames next at call =
-      of_each_phase (λ (w : What). LeavesIts frames next (in_fork at) (record (acts (w ∷ [])) { own = Some (own_action.CallForkHandler (while_called at call.index) call.func) })) call.func refl refl refl at.phase
+      of_each_phase (λ (w : What). LeavesIts frames next (status.Forking at) (record (acts (w ∷ [])) { own = Some (own_action.CallForkHandler (while_called at call.index) call.func) })) call.func refl refl refl at.phase
 
   -- ---- cases
 
@@ -117,7 +117,7 @@ module _ (passes : ℕ) (body : List Stmt) (shared : SharedState) (t : Thread) (
   case_calls (call_left frame s v back is) idle = returns_call back status.Running
   case_calls (handler_left frame s v back is) idle = returns_call back status.Ending
   case_calls (exit_function_left frame s v back is) idle = returns_call back status.Exiting
-  case_calls (fork_handler_left frame s v at back is keeps) idle = returns_call back (in_fork at)
+  case_calls (fork_handler_left frame s v at back is keeps) idle = returns_call back (status.Forking at)
   case_calls (fork_handler_called next at call is) idle =
       of_each_phase (λ (w : What). MakesIts shared next (record (acts (w ∷ [])) { own = Some (own_action.CallForkHandler (while_called at call.index) call.func) })) call.func refl refl refl at.phase
   case_calls _ idle = refl

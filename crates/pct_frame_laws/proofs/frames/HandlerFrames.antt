@@ -114,7 +114,7 @@ none_by script (status.InSem sem) [] why handlers reported (inl fits) none = abs
 none_by script (status.InWaitPid pid) [] why handlers reported (inl fits) none = absurd fits.0.fit
 none_by script (status.Waiting c m) [] why handlers reported (inl fits) none = absurd fits.0.fit
 none_by script (status.Reacquire c m cause) [] why handlers reported (inl fits) none = absurd fits.0.fit
-none_by script (status.Forking phase index length answer) [] why handlers reported (inl fits) none = absurd fits.0.fit
+none_by script (status.Forking at) [] why handlers reported (inl fits) none = absurd fits.0.fit
 none_by script status.Ending [] why handlers reported by none = refl
 none_by script (status.Ended v) [] why handlers reported by none = refl
 none_by script status.Exiting [] why handlers reported by none = refl
@@ -153,8 +153,8 @@ module _ (script : Script) (config : Config) where
               (case_from script config.passes p.shared t others t.frames k (is_placed script t.frames) (none_by script t.status t.frames t.reason t.handlers holds.reported holds.fits.by_status)
               (case_of config.passes (body_at script t.frames) p.shared t others true choice (next_of script t.frames) t.status (λ known. offered)) holds.is_in f a same);
         };
-    replica = λ w p t k index count answer known forks holds.
-        record { reported = _; fits = rule.replica w p t holds.reported index count answer known forks holds.fits; is_in = λ f a same. absurd (none-some (what.HandlerRun f a) same) };
+    replica = λ w p t k at known forks holds.
+        record { reported = _; fits = rule.replica w p t holds.reported at known forks holds.fits; is_in = λ f a same. absurd (none-some (what.HandlerRun f a) same) };
   }
 
   stays_of_step : (before : List Entry) (r : Run) (is : run script config before ≡ Some r) (e : Entry) (p : Process) (t : Thread) (taken : IsTaken script config r.world e p t) → StaysInHandler (step_of script config r p e t)
