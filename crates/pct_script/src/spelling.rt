@@ -120,14 +120,14 @@ fn kind_by_length(word: &[u8]) -> Option<LineKind>
     None
 }
 
-// The kind of a line that begins with this word, by a search of all keywords and points.
-#[tactic(auto, unfolding(pct_model::specs::LineKinds::line_kind_of))]
+// The kind of a line that begins with this word, by a search of all points and keywords.
+#[tactic(auto, using(crate::proofs::Keywords::kind_of_point, crate::proofs::Keywords::kind_of_another))]
 fn kind_among_all(word: &[u8]) -> Option<LineKind>
     ensures { result ≡ line_kind_of word.now }
 {
-    match line_kind_with(word) {
+    match point_kind(word) {
         Some(line_kind) => Some(line_kind),
-        None => point_kind(word),
+        None => line_kind_with(word),
     }
 }
 
