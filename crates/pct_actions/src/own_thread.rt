@@ -33,9 +33,7 @@ fn change_data(keys: &mut Keys, slot: u32, action: Option<OwnAction>)
 {
     match action {
         Some(OwnAction::SetSpecific(key, value)) => keys.set(slot, key_place(key), value),
-        Some(OwnAction::BeginPass) => {
-            let _due = keys.pass_begin(slot);
-        }
+        Some(OwnAction::BeginPass) => keys.begin_pass(slot),
         Some(OwnAction::RunDestructor { key, .. }) => {
             let _taken = keys.pass_take(slot, key_place(key));
         }

@@ -229,8 +229,16 @@ impl Keys {
         ensures table { self.new ≡ on_row slot with_pass self.old }
     {
         let count = self.due(slot);
-        self.rows[slot as usize].begin_pass();
+        self.begin_pass(slot);
         count
+    }
+
+    /// The same, without the number: begins a pass of the thread on the slot.
+    pub fn begin_pass(&mut self, slot: u32)
+        requires { slot < length self.old.rows }
+        ensures { self.new ≡ on_row slot with_pass self.old }
+    {
+        self.rows[slot as usize].begin_pass();
     }
 
     /// Whether the key on the place is left in the pass of the thread on the slot: it was due when the pass began and is due now, and
