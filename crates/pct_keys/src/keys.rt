@@ -57,14 +57,6 @@ impl Keys {
         })
     }
 
-    /// Each table is sound. Nothing is done: the clause is for the proofs of callers.
-    #[inline(always)]
-    pub fn sound(&self)
-        ensures { IsSound self.now }
-    {
-        let _places = &self.places;
-    }
-
     // ---- keys
 
     /// The place of the key with this number. It is `None` exactly if there is none.
@@ -303,8 +295,17 @@ impl Keys {
             unreachable!()
         };
         let value = self.get(slot, place);
-        self.rows[slot as usize].clear(place);
+        self.take_out(slot, place);
         (destructor, value)
+    }
+
+    /// Takes the place out of the pass of the thread on the slot, and makes its value there 0.
+    pub fn take_out(&mut self, slot: u32, place: u32)
+        requires slot { slot < length self.old.rows }
+        requires place { place < MAX_KEYS }
+        ensures { self.new ≡ on_row slot (without_value place) self.old }
+    {
+        self.rows[slot as usize].clear(place);
     }
 
     // ---- rows

@@ -7,11 +7,10 @@ use Rattle.pct_engine_laws.specs.Fitting.{Fits}
 use Rattle.pct_engine_laws.specs.SeenSteps.{thread_with, new_ids_from, others_in, choices_in, transition_in}
 use Rattle.pct_transition_cases.proofs.CaseOfTransition.{case_of}
 use Rattle.pct_transition_cases.proofs.TransitionCases.{TransitionCase, thread_made, join_ended, key_made, key_deleted, specific_set}
-use Rattle.pct_transition_cases.proofs.TransitionCases.{destructor_called, fork_registered, exit_registered}
+use Rattle.pct_transition_cases.proofs.TransitionCases.{fork_registered, exit_registered}
 use Rattle.pct_process.specs.ProcessViews.{ProcessData}
-use Rattle.pct_transitions.specs.Numbers.{AreOnPlaces}
 use Rattle.pct_transitions.specs.ProcessSteps.{with_data}
-use Rattle.pct_transitions.proofs.KeyChoices.{new_fits, left_fits}
+use Rattle.pct_transitions.proofs.KeyChoices.{new_fits}
 use Rattle.pct_actions.specs.ProcessChanges.{AreOnSlots, KeyFits, SharedFits, NamedFits, deleted_key, forgotten_key, Makes}
 
 -- ---- keys
@@ -34,10 +33,9 @@ module _ (script : Script) (passes tid : ℕ) (family : Family) (d : ProcessData
   abbrev Case : Others → NextStatement → Status → Transition → Type 0
   Case others next s o = TransitionCase passes (body_at script t.frames) d.shared t others true next s o
 
-  key_fits : AreOnPlaces d.shared.keys → {others : Others} {next : NextStatement} {s : Status} {o : Transition} → Case others next s o → KeyFits o.own d.shared.keys t.specific
-  key_fits on (specific_set frame key v named) = is_there _ named
-  key_fits on (destructor_called next k f key none is destructor among) = left_fits d.shared.keys t.specific k on (among refl)
-  key_fits on _ = tt
+  key_fits : {others : Others} {next : NextStatement} {s : Status} {o : Transition} → Case others next s o → KeyFits o.own d.shared.keys
+  key_fits (specific_set frame key v named) = is_there _ named
+  key_fits _ = tt
 
   shared_fits : {others : Others} {next : NextStatement} {s : Status} {o : Transition} → Case others next s o → SharedFits o.shared d.shared
   shared_fits (key_made frame result key destructor k among) = new_fits d.shared.keys k (among refl)
@@ -64,8 +62,8 @@ module _ (script : Script) (passes tid : ℕ) (family : Family) (d : ProcessData
   created_fits _ = tt
 
   -- the transition that it takes fits the process
-  pub taken_fits : AreOnSlots d.slots → AreOnPlaces d.shared.keys → Fits (length t.frames) (length t.handlers) t.pass taken.own → offers (choices_in script slots family (with_data d) t) choice ≡ true → Makes tid taken d
-  taken_fits placed on fits offered =
+  pub taken_fits : AreOnSlots d.slots → Fits (length t.frames) (length t.handlers) t.pass taken.own → offers (choices_in script slots family (with_data d) t) choice ≡ true → Makes tid taken d
+  taken_fits placed fits offered =
       let others : Others = others_in slots family d.slots t.id in
       let next : NextStatement = next_of script t.frames in
       let body : List Stmt = body_at script t.frames in
@@ -75,7 +73,7 @@ module _ (script : Script) (passes tid : ℕ) (family : Family) (d : ProcessData
         thread = t;
         here = found;
         fits = fits;
-        keys = key_fits on its_case;
+        keys = key_fits its_case;
         shared = shared_fits its_case;
         named = named_fits refl its_case;
         forgets = forgets its_case;

@@ -7,7 +7,6 @@ ghost use Rattle.pct_engine_laws.specs.Fitting.{Fits};
 ghost use Rattle.pct_engine_laws.specs.SeenSteps.{choices_in, is_ready_in};
 ghost use Rattle.pct_process.specs.FamilyViews.{other_processes};
 ghost use Rattle.pct_process.specs.ProcessViews.{thread_on_slot};
-ghost use Rattle.pct_transitions.specs.Numbers.{AreOnPlaces};
 ghost use Rattle.pct_transitions.specs.ProcessSteps.{with_data, NewNumbersFit, ForksHaveRoom, Takes};
 
 use crate::cancel_calls::may_return;
@@ -109,10 +108,7 @@ pub fn takes(
     requires room { ForksHaveRoom process.now.slots }
     ensures taken { (t : Thread) → thread_on_slot process.now.slots slot ≡ Some t → Takes around.entry.program.now.script around.entry.program.now.config (other_processes around.entry.family) process.now t choice result transition.new }
     ensures fits { (t : Thread) → thread_on_slot process.now.slots slot ≡ Some t → result ≡ true → Fits (length t.frames) (length t.handlers) t.pass transition.new.own }
-    // This holds of every process.
-    ensures places { AreOnPlaces process.now.shared.keys }
 {
-    process.keys.sound();
     let context = Context::new(around, process, slot);
     if !choices_at(&context).offers(context.threads, context.position.keys, choice) {
         return false;
