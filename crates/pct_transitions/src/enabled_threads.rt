@@ -70,8 +70,10 @@ pub fn count_in(process: &ProcessState, sem: u32) -> u32
 pub fn has_ended(process: &ProcessState, id: u32) -> bool
     ensures { (family : OtherProcesses) (tid : ℕ) → result ≡ is_ended_thread id (others_in (length process.now.slots) family process.now.slots tid) }
 {
-    let slot = process.threads.slot_of(id);
-    process.threads.has_id(slot, id) && exit_value_of(process.threads.read(slot).status).is_some()
+    match process.threads.slot_named(id) {
+        Some(slot) => exit_value_of(process.threads.read(slot).status).is_some(),
+        None => false,
+    }
 }
 
 /// Whether a process has a child with this id that has not ended, by what it sees of the other processes.

@@ -1,8 +1,8 @@
 //! What a thread sees of the other threads of its process, as the tables ask for it. Nothing is looked for before it is asked.
 
-ghost use Rattle.std.specs.Prelude.{◌≡◌, ◌<◌, true, All, length, map};
+ghost use Rattle.std.specs.Prelude.{◌≡◌, ◌<◌, true, All, length, map, option_map};
 ghost use Rattle.std.specs.List.{list_any};
-ghost use Rattle.pct_model.specs.OtherThreads.{Others, no_live_thread, is_detached_thread, exit_value_of, exit_value_with, waits_with_another_mutex, is_joining};
+ghost use Rattle.pct_model.specs.OtherThreads.{Others, exit_value_of, exit_value_with, waits_with_another_mutex, is_joining};
 ghost use Rattle.pct_model.specs.CondCalls.{is_waiting_on};
 ghost use Rattle.pct_set.specs.Slots.{slots_where};
 ghost use Rattle.pct_threads.specs.Tables.{held_at, is_occupied_at, next_id_at};
@@ -15,28 +15,14 @@ use pct_set::SlotSet;
 use pct_threads::Threads;
 
 impl<'a> Context<'a> {
-    /// Whether no thread has the id, or the lifetime of the id is over.
+    /// Whether the thread with the id is detached. `None` if no thread has the id, or the lifetime of the id is over.
     #[inline(always)]
-    pub(crate) fn no_live_thread(&self, id: u32) -> bool
+    pub(crate) fn detached(&self, id: u32) -> Option<bool>
         requires { IsWhole self.now }
-        ensures { (others : Others) → SeesOthers self.now others → result ≡ no_live_thread id others }
+        ensures { (others : Others) → SeesOthers self.now others → result ≡ option_map (λ t. t.detached) (others.named id) }
     {
-        let slot = self.threads.slot_of(id);
-        !self.threads.has_id(slot, id)
-    }
-
-    /// Whether the thread with the id is detached.
-    #[inline(always)]
-    pub(crate) fn is_detached_thread(&self, id: u32) -> bool
-        requires { IsWhole self.now }
-        ensures { (others : Others) → SeesOthers self.now others → result ≡ is_detached_thread id others }
-    {
-        let slot = self.threads.slot_of(id);
-        if self.threads.has_id(slot, id) {
-            self.threads.place(slot).detached
-        } else {
-            false
-        }
+        let slot = self.threads.slot_named(id)?;
+        Some(self.threads.place(slot).detached)
     }
 
     /// The exit value of the thread with the id, once it has ended.
@@ -45,12 +31,8 @@ impl<'a> Context<'a> {
         requires { IsWhole self.now }
         ensures { (others : Others) → SeesOthers self.now others → result ≡ exit_value_with id others }
     {
-        let slot = self.threads.slot_of(id);
-        if self.threads.has_id(slot, id) {
-            exit_value_of(self.threads.read(slot).status)
-        } else {
-            None
-        }
+        let slot = self.threads.slot_named(id)?;
+        exit_value_of(self.threads.read(slot).status)
     }
 
     /// Whether a thread is suspended in pthread_join for this id.
