@@ -16,7 +16,7 @@ use Rattle.pct_model.specs.World.{Thread, SharedState}
 use Rattle.pct_engine_laws.specs.Fitting.{Fits}
 use Rattle.pct_engine_laws.specs.Seen.{SeenSlot, slots_moved}
 use Rattle.pct_engine_laws.specs.SeenSteps.{thread_with, new_ids_from}
-use Rattle.pct_process.specs.ProcessViews.{ProcessData}
+use Rattle.pct_process.specs.ProcessViews.{thread_on_slot, ProcessData}
 
 -- ---- what it changes
 
@@ -67,16 +67,16 @@ abbrev pub forgotten_key : Option NamedAction → Option ℕ
 forgotten_key (Some (named_action.ForgetKey k)) = Some k
 forgotten_key _ = None
 
--- a transition of the thread with an id fits the process: the thread holds its slot and has room for its action; the keys, what the
+-- a transition of the thread on slot k fits the process: there is such a thread, and it has room for its action; the keys, what the
 -- threads share and the threads that are named are as the actions need them; a key is deleted together with its values; and a thread that
 -- is created gets an id that a new thread can get
-pub record Makes (tid : ℕ) (o : Transition) (p : ProcessData) : Type 0 where
+pub record Makes (k : ℕ) (o : Transition) (p : ProcessData) : Type 0 where
   pub on_slots : AreOnSlots p.slots
   pub thread : Thread
-  pub here : thread_with (length p.slots) tid p.slots ≡ Some thread
+  pub here : thread_on_slot p.slots k ≡ Some thread
   pub fits : Fits (length thread.frames) (length thread.handlers) thread.pass o.own
   pub keys : KeyFits o.own p.shared.keys
   pub shared : SharedFits o.shared p.shared
-  pub named : NamedFits tid o.named p.slots
+  pub named : NamedFits thread.id o.named p.slots
   pub forgets : deleted_key o.shared ≡ forgotten_key o.named
   pub created : IfSome o.created (λ new. list_any (nat_eq new.id) (new_ids_from (length p.slots) 0 p.slots) ≡ true)

@@ -8,10 +8,11 @@ use Rattle.pct_engine_laws.specs.SeenSteps.{thread_with, new_ids_from, others_in
 use Rattle.pct_transition_cases.proofs.CaseOfTransition.{case_of}
 use Rattle.pct_transition_cases.proofs.TransitionCases.{TransitionCase, thread_made, join_ended, key_made, key_deleted, specific_set}
 use Rattle.pct_transition_cases.proofs.TransitionCases.{fork_registered, exit_registered}
-use Rattle.pct_process.specs.ProcessViews.{ProcessData}
+use Rattle.pct_process.specs.ProcessViews.{thread_on_slot, ProcessData}
 use Rattle.pct_transitions.specs.ProcessSteps.{with_data}
 use Rattle.pct_transitions.proofs.KeyChoices.{new_fits}
 use Rattle.pct_actions.specs.ProcessChanges.{AreOnSlots, KeyFits, SharedFits, NamedFits, deleted_key, forgotten_key, Makes}
+use Rattle.pct_machine.proofs.HeldSlots.{held_by}
 
 -- ---- keys
 
@@ -21,7 +22,7 @@ is_there (Some key) none = refl
 
 -- ---- the transition of a thread, by a choice that is offered
 
-module _ (script : Script) (passes tid : ℕ) (family : Family) (d : ProcessData) (t : Thread) (choice : Alt) (found : thread_with (length d.slots) tid d.slots ≡ Some t) where
+module _ (script : Script) (passes : ℕ) (family : Family) (d : ProcessData) (k : ℕ) (t : Thread) (choice : Alt) (placed : AreOnSlots d.slots) (here : thread_on_slot d.slots k ≡ Some t) where
   abbrev slots : ℕ
   slots = length d.slots
 
@@ -43,11 +44,11 @@ module _ (script : Script) (passes tid : ℕ) (family : Family) (d : ProcessData
   shared_fits (exit_registered frame result f may) = ltb-true (length d.shared.exit_functions) 32 (and_parts _ _ may).0
   shared_fits _ = tt
 
-  named_fits : {next : NextStatement} {s : Status} {o : Transition} → t.status ≡ s → Case (others_in slots family d.slots t.id) next s o → NamedFits tid o.named d.slots
+  named_fits : {next : NextStatement} {s : Status} {o : Transition} → t.status ≡ s → Case (others_in slots family d.slots t.id) next s o → NamedFits t.id o.named d.slots
   unfolding others_in
   named_fits at (join_ended frame operand e id v target is ended) =
       let has_ended : is_ended_status target.status ≡ true = ap is_ended_status ended in (
-        λ same. let mover : target ≡ t = same_Some target t (sym is ∙ ap (λ (k : ℕ). thread_with slots k d.slots) same ∙ found) in false≢true (sym (ap is_ended_status at) ∙ ap (λ (u : Thread). is_ended_status u.status) (sym mover) ∙ has_ended),
+        λ same. let mover : target ≡ t = same_Some target t (sym is ∙ ap (λ (n : ℕ). thread_with slots n d.slots) same ∙ (held_by d.slots placed k t here).1) in false≢true (sym (ap is_ended_status at) ∙ ap (λ (u : Thread). is_ended_status u.status) (sym mover) ∙ has_ended),
         subst (λ (o : Option Thread). IfSome o (λ u. is_ended_status u.status ≡ true)) (sym is) has_ended,
       )
   named_fits at _ = tt
@@ -62,8 +63,8 @@ module _ (script : Script) (passes tid : ℕ) (family : Family) (d : ProcessData
   created_fits _ = tt
 
   -- the transition that it takes fits the process
-  pub taken_fits : AreOnSlots d.slots → Fits (length t.frames) (length t.handlers) t.pass taken.own → offers (choices_in script slots family (with_data d) t) choice ≡ true → Makes tid taken d
-  taken_fits placed fits offered =
+  pub taken_fits : Fits (length t.frames) (length t.handlers) t.pass taken.own → offers (choices_in script slots family (with_data d) t) choice ≡ true → Makes k taken d
+  taken_fits fits offered =
       let others : Others = others_in slots family d.slots t.id in
       let next : NextStatement = next_of script t.frames in
       let body : List Stmt = body_at script t.frames in
@@ -71,7 +72,7 @@ module _ (script : Script) (passes tid : ℕ) (family : Family) (d : ProcessData
       record {
         on_slots = placed;
         thread = t;
-        here = found;
+        here = here;
         fits = fits;
         keys = key_fits its_case;
         shared = shared_fits its_case;

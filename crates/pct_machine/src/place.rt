@@ -175,7 +175,7 @@ impl Place {
         if !takes(around, &self.state, slot, entry.alt, transition) {
             return false;
         }
-        make(&mut self.state, entry.tid, transition);
+        make(&mut self.state, slot, transition);
         true
     }
 
