@@ -248,15 +248,7 @@ impl Threads {
     }
 
     /// The newest frame of the thread. It is `None` exactly if the thread has no frame.
-    pub fn top_frame(&self, slot: u32) -> Option<Frame>
-        requires { is_occupied_at self.now slot ≡ true }
-        ensures { result ≡ slice_get (frames_at self.now slot) 0 }
-    {
-        self.row(slot).top_frame().copied()
-    }
-
-    /// The same, without a copy of the frame.
-    pub fn top_frame_ref(&self, slot: u32) -> Option<&Frame>
+    pub fn top_frame(&self, slot: u32) -> Option<&Frame>
         requires { is_occupied_at self.now slot ≡ true }
         ensures { option_map (λ frame. frame.now) result ≡ slice_get (frames_at self.now slot) 0 }
     {

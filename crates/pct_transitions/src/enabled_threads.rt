@@ -46,7 +46,7 @@ pub fn next_on<'a>(program: &'a Program, process: &'a ProcessState, slot: u32) -
     requires { is_some (thread_on_slot process.now.slots slot) ≡ true }
     ensures { (t : Thread) → thread_on_slot process.now.slots slot ≡ Some t → next_at result ≡ next_of program.now.script t.frames }
 {
-    next_of(&program.script, process.threads.top_frame_ref(slot))
+    next_of(&program.script, process.threads.top_frame(slot))
 }
 
 /// Whether no thread of a process owns the mutex with this index.
