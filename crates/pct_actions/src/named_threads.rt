@@ -2,7 +2,7 @@
 
 ghost use Rattle.std.specs.Prelude.{◌≡◌, IfSome, length, map, true};
 ghost use Rattle.pct_model.specs.declared.state.Cause.TheVariants as cause;
-ghost use Rattle.pct_model.specs.CondCalls.{is_waiting_on, unblocked};
+ghost use Rattle.pct_model.specs.CondCalls.{unblocked};
 ghost use Rattle.pct_threads.specs.Slots.{after_detach, after_change, with_change, freed};
 ghost use Rattle.pct_threads.specs.Tables.{slot_named, is_occupied_at, is_reclaimable_at, on_held};
 ghost use Rattle.pct_actions.specs.SharedChanges.{named_on, on_named, requested, woken, woken_from, NameFits};
@@ -111,18 +111,8 @@ fn wake_waiter_on(threads: &mut Threads, slot: u32, cond: u32)
     ensures length { length threads.new ≡ length threads.old }
 {
     let thread = threads.write(slot);
-    if is_waiting_on(cond, thread.status) {
+    if thread.is_waiting_on(cond) {
         thread.status = unblocked(Cause::Broadcast, thread.status);
-    }
-}
-
-// The status is that of a thread that waits on the condition variable with this index.
-fn is_waiting_on(cond: u32, status: Status) -> bool
-    ensures { result ≡ is_waiting_on cond status }
-{
-    match status {
-        Status::Waiting(waited, _) => waited == cond,
-        _ => false,
     }
 }
 

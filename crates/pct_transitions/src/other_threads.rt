@@ -136,22 +136,12 @@ fn waiting_slots(threads: &Threads, cond: u32) -> SlotSet
     let mut waiting = SlotSet::new();
     let mut rest = threads.occupied();
     while let Some(slot) = rest.nth(0) {
-        if is_waiting_on(cond, threads.read(slot).status) {
+        if threads.read(slot).is_waiting_on(cond) {
             waiting.insert(slot);
         }
         rest.remove(slot);
     }
     waiting
-}
-
-// The status is that of a thread that waits on the condition variable with this index.
-fn is_waiting_on(cond: u32, status: Status) -> bool
-    ensures { result ≡ is_waiting_on cond status }
-{
-    match status {
-        Status::Waiting(waited, _) => waited == cond,
-        _ => false,
-    }
 }
 
 // Whether a thread of a table waits on the condition variable with an index, with another mutex than the one with an index.
