@@ -159,8 +159,8 @@ impl ProcessState {
     }
 }
 
-// Whether each thread of a table but the one with an id has ended.
-fn is_last(threads: &Threads, tid: u32) -> bool
+/// Whether each thread of a table but the one with an id has ended.
+pub fn is_last(threads: &Threads, tid: u32) -> bool
     ensures { result ≡ list_all (λ s. has_no_other tid s.here) threads.now }
 {
     for slot in 0..threads.slot_count() {

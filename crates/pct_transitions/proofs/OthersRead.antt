@@ -1,25 +1,25 @@
 -- What is read of the table of threads is what a thread sees of the others.
 use Rattle.pct_names.proofs.Names.{◌*◌, ◌+◌, ◌++◌, ◌<◌, [], All, ap, arith, Bool, cases_lt, cond, drop, drop_all, drop_more, exit_value_of}
-use Rattle.pct_names.proofs.Names.{exit_value_with, false, false≢true, Family, filter, filter_passes, inl, inr, is_detached_thread}
-use Rattle.pct_names.proofs.Names.{is_joining, is_none, is_some, KeyValues, length, List, list_any, list_any-append, list_any_at, map}
-use Rattle.pct_names.proofs.Names.{nat_eq, no_live_thread, None, none-some, not, Option, option_and_then, option_map, option_map_or, Others}
-use Rattle.pct_names.proofs.Names.{range_with_len, refl, same_Some, slice_get-get_or, slice_get_past, slot_of, Some, suc, sym, take}
-use Rattle.pct_names.proofs.Names.{take_all, Thread, true, zero, ◌||◌, ℕ, ◌∙◌, ◌∷◌, ◌≡◌, ◌≤◌}
+use Rattle.pct_names.proofs.Names.{exit_value_with, false, false≢true, Family, filter, filter_passes, inl, inr, is_joining, is_none}
+use Rattle.pct_names.proofs.Names.{is_some, KeyValues, length, List, list_all, list_any, list_any-append, list_any_at, map, None, none-some}
+use Rattle.pct_names.proofs.Names.{not, Option, option_and_then, option_map, option_map_or, Others, range_with_len, refl, same_Some}
+use Rattle.pct_names.proofs.Names.{slice_get-get_or, slice_get_past, Some, suc, sym, take, take_all, Thread, true, unwrap_or, zero, ◌||◌, ℕ}
+use Rattle.pct_names.proofs.Names.{◌∙◌, ◌∷◌, ◌≡◌, ◌≤◌}
 use Rattle.std.proofs.Math.Bool.{or-false}
 use Rattle.pct_set.specs.Slots.{slots_where}
 use Rattle.pct_threads.specs.declared.record.Place.{Place}
 use Rattle.pct_threads.specs.declared.record.Thread.{Thread as Kept}
-use Rattle.pct_threads.specs.Slots.{Held, Slot, unused, is_occupied, has_id, place_of}
-use Rattle.pct_threads.specs.Tables.{slot_at, held_at, place_at, thread_at, is_free_at, next_id_at}
+use Rattle.pct_threads.specs.Slots.{Held, Slot, unused, is_occupied, place_of}
+use Rattle.pct_threads.specs.Tables.{slot_at, slot_named, held_at, place_at, thread_at, is_free_at, next_id_at}
 use Rattle.pct_threads.proofs.TableLemmas.{within-free}
 use Rattle.pct_keys.specs.Tables.{Table, row_at}
 use Rattle.pct_engine_laws.specs.Seen.{SeenSlot, threads_on}
 use Rattle.pct_engine_laws.specs.SeenSteps.{is_empty, new_id_on, new_ids_from, others_in}
-use Rattle.pct_engine_laws.proofs.ListFacts.{all_none}
-use Rattle.pct_process.specs.ThreadViews.{thread_of, threads_of, slot_view, with_specific}
-use Rattle.pct_process.specs.ProcessViews.{slots_of, with_rows}
-use Rattle.pct_process.proofs.ViewedSlots.{own, length-slots_of, thread_on_slot-is, looked_up, not_looked_up}
-use Rattle.pct_transitions.specs.OtherThreads.{any_on, is_other_running}
+use Rattle.pct_process.specs.ThreadViews.{thread_of, threads_of, slot_view, with_specific, has_no_other}
+use Rattle.pct_process.specs.ProcessViews.{slots_of, thread_on_slot, with_rows}
+use Rattle.pct_process.proofs.ViewedSlots.{own, length-slots_of, thread_on_slot-is, thread_with-is}
+use Rattle.pct_process.proofs.LastThread.{last_read}
+use Rattle.pct_transitions.specs.OtherThreads.{any_on}
 
 -- ---- scans
 
@@ -150,12 +150,9 @@ module _ (keys : Table) (threads : List Slot) (fit : length keys.rows ≡ length
   joins_read id = any_slot (λ t. is_joining id t.status) (λ own t. refl) keys.rows threads fit ∙ ap (λ (o : Others). o.another_joins id) (sym sees)
 
   -- each other thread has ended
-  pub last_read : (b : Bool) → b ≡ list_any (λ s. any_on (is_other_running tid) s.here) threads → not b ≡ others.is_last
+  pub is_last_read : list_all (λ s. has_no_other tid s.here) threads ≡ others.is_last
   unfolding others_in
-  last_read b is =
-      ap not (is ∙ any_slot (is_other_running tid) (λ own t. refl) keys.rows threads fit)
-      ∙ sym (all_none (λ t. t.ended || nat_eq t.id tid) (threads_on (slots_of keys.rows threads)))
-      ∙ ap (λ (o : Others). o.is_last) (sym sees)
+  is_last_read = last_read tid keys.rows threads fit ∙ ap (λ (o : Others). o.is_last) (sym sees)
 
   -- the ids of the next threads on the free slots
   pub new_ids_read : length threads ≤ 64 → map (next_id_at threads) (slots_where (is_free_at threads)) ≡ others.new_ids

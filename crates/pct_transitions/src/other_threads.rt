@@ -7,10 +7,11 @@ ghost use Rattle.pct_model.specs.CondCalls.{is_waiting_on};
 ghost use Rattle.pct_set.specs.Slots.{slots_where};
 ghost use Rattle.pct_threads.specs.Tables.{held_at, is_occupied_at, next_id_at};
 ghost use Rattle.pct_transitions.specs.Contexts.{SeesOthers, IsWhole};
-ghost use Rattle.pct_transitions.specs.OtherThreads.{any_on, ids_on, is_other_running, is_waiting_with_another};
+ghost use Rattle.pct_transitions.specs.OtherThreads.{any_on, ids_on, is_waiting_with_another};
 
 use crate::context::Context;
 use pct_model::Status;
+use pct_process::is_last;
 use pct_set::SlotSet;
 use pct_threads::Threads;
 
@@ -81,7 +82,7 @@ impl<'a> Context<'a> {
         requires { IsWhole self.now }
         ensures { (others : Others) → SeesOthers self.now others → result ≡ others.is_last }
     {
-        !is_another_running(self.threads, self.position.id)
+        is_last(self.threads, self.position.id)
     }
 }
 
@@ -175,29 +176,5 @@ fn is_waiting_with_another(cond: u32, mutex: u32, status: Status) -> bool
     match status {
         Status::Waiting(waited, released) => waited == cond && released != mutex,
         _ => false,
-    }
-}
-
-// Whether a thread of a table has not ended and has another id than this.
-fn is_another_running(threads: &Threads, id: u32) -> bool
-    ensures { result ≡ list_any (λ s. any_on (is_other_running id) s.here) threads.now }
-{
-    for slot in 0..threads.slot_count() {
-        if is_other_on(threads, slot, id) {
-            return true;
-        }
-    }
-    false
-}
-
-// The thread on a slot has not ended, and has another id than this. A free slot has no thread.
-fn is_other_on(threads: &Threads, slot: u32, id: u32) -> bool
-    requires { slot < length threads.now }
-    ensures { result ≡ any_on (is_other_running id) (held_at threads.now slot) }
-{
-    if threads.is_occupied(slot) {
-        !(threads.read(slot).ended || threads.place(slot).id == id)
-    } else {
-        false
     }
 }
