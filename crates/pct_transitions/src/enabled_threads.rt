@@ -8,12 +8,11 @@ ghost use Rattle.pct_model.specs.Cancelability.{is_deliverable, is_asynchronous}
 ghost use Rattle.pct_model.specs.World.{Thread};
 ghost use Rattle.pct_model.specs.NextStatement.{NextStatement, next_of};
 ghost use Rattle.pct_model.specs.MutexCalls.{is_free_mutex};
-ghost use Rattle.pct_model.specs.OtherProcesses.{Family as OtherProcesses, is_running_child};
+ghost use Rattle.pct_model.specs.OtherProcesses.{Family as OtherProcesses};
 ghost use Rattle.pct_model.specs.OtherThreads.{Waiter, Others, is_ended_thread};
 ghost use Rattle.pct_model.specs.ChoiceTable.{choices_at, running_choices, unblocked_acts, go_if, act_if, is_enabled};
 ghost use Rattle.pct_model.specs.StopTable.{is_fork_kind};
 ghost use Rattle.pct_engine_laws.specs.SeenSteps.{others_in};
-ghost use Rattle.pct_process.specs.FamilyViews.{other_processes};
 ghost use Rattle.pct_process.specs.ProcessViews.{thread_on_slot};
 ghost use Rattle.pct_transitions.specs.Positions.{next_at};
 ghost use Rattle.pct_transitions.specs.ThreadRecords.{IsRecord, HasCancelability};
@@ -26,7 +25,7 @@ use crate::sem_calls::count_of;
 use crate::stop_table::is_fork_kind;
 use pct_cancel::Cancel;
 use pct_model::{Cause, FrameKind, Stmt};
-use pct_process::{Family, ProcessState};
+use pct_process::ProcessState;
 use pct_threads::Thread as ThreadRecord;
 
 // ---- what is read
@@ -73,17 +72,6 @@ pub fn has_ended(process: &ProcessState, id: u32) -> bool
     match process.threads.slot_named(id) {
         Some(slot) => exit_value_of(process.threads.read(slot).status).is_some(),
         None => false,
-    }
-}
-
-/// Whether a process has a child with this id that has not ended, by what it sees of the other processes.
-#[inline(always)]
-pub fn has_running_child(family: Family, pid: u32) -> bool
-    ensures { result ≡ is_running_child pid (other_processes family.entry) }
-{
-    match family.child(pid) {
-        None => false,
-        Some(child) => child.ended.is_none(),
     }
 }
 

@@ -13,7 +13,7 @@ use crate::cancel_calls::may_return;
 use crate::choice_table::choices_at;
 use crate::context::{Context, Surroundings};
 use crate::enabled_threads::{
-    count_in, goes_or_acts, has_ended, has_running_child, reacquires_or_acts, record_of, runs_on,
+    count_in, goes_or_acts, has_ended, reacquires_or_acts, record_of, runs_on,
 };
 use crate::transition_table::transition_by;
 use pct_model::{Alt, Status, Transition};
@@ -37,7 +37,7 @@ pub fn has_choice(around: Surroundings, process: &ProcessState, slot: u32) -> bo
         Status::Joining(id) => goes_or_acts(has_ended(process, id), &thread.cancel),
         Status::InSem(sem) => goes_or_acts(count_in(process, sem) > 0, &thread.cancel),
         Status::InWaitPid(pid) => {
-            goes_or_acts(!has_running_child(around.family, pid), &thread.cancel)
+            goes_or_acts(!around.family.is_running_child(pid), &thread.cancel)
         }
         Status::Ending | Status::Forking(_, _, _, _) | Status::Exiting => true,
         Status::Ended(_) => false,
