@@ -87,7 +87,7 @@ impl<'a> Context<'a> {
 }
 
 /// The exit value of a thread with this status, once it has ended.
-pub fn exit_value_of(status: Status) -> Option<u32>
+pub(crate) fn exit_value_of(status: Status) -> Option<u32>
     ensures { result ≡ exit_value_of status }
 {
     match status {
