@@ -7,18 +7,18 @@ use Rattle.pct_names.proofs.Names.{subst, sym, Thread, true, unblocked, without_
 use Rattle.std.proofs.Common.{mod-lt}
 use Rattle.pct_model.specs.declared.transition.NamedAction.TheVariants as named_action
 use Rattle.pct_threads.specs.Slots.{Held, Slot, unused, has_id, is_reclaimable, after_detach, after_change, with_change, freed}
-use Rattle.pct_threads.specs.Tables.{slot_at, held_at, is_reclaimable_at, on_slot}
+use Rattle.pct_threads.specs.Tables.{slot_at, slot_named, held_at, is_reclaimable_at, on_slot}
 use Rattle.pct_threads.proofs.TableLemmas.{within-occupied, occupied-test}
 use Rattle.pct_keys.specs.Tables.{Table, row_at}
 use Rattle.pct_engine_laws.specs.Seen.{SeenSlot}
 use Rattle.pct_engine_laws.specs.SeenSteps.{thread_with}
 use Rattle.pct_engine_laws.proofs.ThreadChanges.{unblocked_ended}
 use Rattle.pct_process.specs.ThreadViews.{thread_of, threads_of, slot_view, with_specific}
-use Rattle.pct_process.specs.ProcessViews.{with_row, slots_of, thread_on_slot, ProcessData}
+use Rattle.pct_process.specs.ProcessViews.{with_row, slots_of, ProcessData}
 use Rattle.pct_process.proofs.ViewedSlots.{own, length-slots_of, slot_here, thread_on_slot-is, thread_with-is}
 use Rattle.pct_actions.specs.ProcessChanges.{IsOnSlot, AreOnSlots, JoinFits, NamedFits, forgotten_key}
 use Rattle.pct_actions.specs.ProcessParts.{on_threads, slot_changed}
-use Rattle.pct_actions.specs.SharedChanges.{forgotten, slot_named, on_named, requested, woken, woken_from, named_on, NameFits}
+use Rattle.pct_actions.specs.SharedChanges.{forgotten, on_named, requested, woken, woken_from, named_on, NameFits}
 use Rattle.pct_actions.proofs.ChangedSlots.{none_changed, none_leaves, one_changed}
 use Rattle.pct_actions.proofs.TableSlots.{seen_at, changed_thread}
 
@@ -157,8 +157,9 @@ module _ (keys : Table) (threads : List Slot) (fit : length keys.rows ≡ length
     -- a thread that was joined has ended
     ended_here : (tid : ℕ) → JoinFits tid id slots → (h : Held) → held_at threads place ≡ Some h → nat_eq h.id id ≡ true → is_ended_status h.thread.status ≡ true
     ended_here tid fits h here named =
-        let found : thread_with (length slots) id slots ≡ Some (own keys threads fit place h) = thread_with-is keys threads fit id place refl (within-occupied threads place (ap is_some here))
-        ∙ ap (λ (b : Bool). cond b (thread_on_slot slots place) None) (ap (λ (o : Option Held). option_map_or (λ x. nat_eq x.id id) o false) here ∙ named)
+        let inside : place < length threads = within-occupied threads place (ap is_some here) in
+        let at : slot_named id threads ≡ Some place = ap (λ (b : Bool). cond b (Some place) None) (ap (λ (o : Option Held). option_map_or (λ x. nat_eq x.id id) o false) here ∙ named) in
+        let found : thread_with (length slots) id slots ≡ Some (own keys threads fit place h) = thread_with-is keys threads fit id (Some place) (sym at) (omega (arith, inside))
         ∙ thread_on_slot-is keys threads fit place
         ∙ ap (option_map (own keys threads fit place)) here in
         subst (λ (o : Option Thread). IfSome o (λ t. is_ended_status t.status ≡ true)) found fits.1

@@ -92,8 +92,8 @@ module _ (keys : Table) (threads : List Slot) (fit : length keys.rows ≡ length
       let same : own keys threads fit slot h ≡ w.thread = ap (own keys threads fit slot) (same_Some h own_held.0 (sym here ∙ own_held.1)) ∙ own_held.2 in
       subst (λ (t : Thread). Fits (length t.frames) (length t.handlers) t.pass o.own) (sym same) w.fits
 
-  pub keys_fit : KeyFits o.own shared.keys row
-  keys_fit = subst (λ (places : List KeyPlace). KeyFits o.own places row) (sym (ap (λ (d : ProcessData). d.shared.keys) view)) (subst (λ (t : Thread). KeyFits o.own p.shared.keys t.specific) (sym own_held.2) w.keys)
+  pub keys_fit : KeyFits o.own shared.keys
+  keys_fit = subst (KeyFits o.own) (sym (ap (λ (d : ProcessData). d.shared.keys) view)) w.keys
 
   -- the process after the transition
   pub after_own : (rows : List KeyValues) (new : List Slot) → rows ≡ own_rows slot o.own keys.rows → new ≡ own_moved slot o threads

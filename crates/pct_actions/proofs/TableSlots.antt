@@ -1,14 +1,12 @@
 -- The slots of a process after a change of one slot in its tables.
-use Rattle.pct_names.proofs.Names.{◌<◌, [], ap, Bool, cond, false, find, KeyValues, length, length-map, List, map, map-set, nat_eq, None}
-use Rattle.pct_names.proofs.Names.{none-some, Option, option_and_then, option_map_or, refl, same_Some, set-get_or, slice_get}
-use Rattle.pct_names.proofs.Names.{slice_get_within, slice_set, Some, subst, sym, Thread, true, ℕ, ◌∙◌, ◌∷◌, ◌≡◌}
-use Rattle.std.proofs.Common.{eqb-true}
+use Rattle.pct_names.proofs.Names.{◌<◌, [], ap, KeyValues, length, length-map, List, map, map-set, None, none-some, Option, option_map_or}
+use Rattle.pct_names.proofs.Names.{refl, same_Some, set-get_or, slice_get, slice_get_within, slice_set, Some, subst, sym, Thread, ℕ, ◌∙◌}
+use Rattle.pct_names.proofs.Names.{◌∷◌, ◌≡◌}
 use Rattle.pct_threads.specs.Slots.{Held, Slot}
 use Rattle.pct_threads.specs.Tables.{slot_at, held_at, on_slot}
 use Rattle.pct_keys.specs.Tables.{Table, row_at, no_row}
 use Rattle.pct_engine_laws.specs.Seen.{SeenSlot}
 use Rattle.pct_engine_laws.specs.Seen as seen
-use Rattle.pct_engine_laws.specs.SeenSteps.{thread_on}
 use Rattle.pct_process.specs.ThreadViews.{threads_of, slot_view, with_specific}
 use Rattle.pct_process.specs.ProcessViews.{with_row, with_rows, slots_of}
 use Rattle.pct_process.proofs.RowViews.{set-with_rows}
@@ -50,20 +48,3 @@ module _ (keys : Table) (threads : List Slot) (fit : length keys.rows ≡ length
       by : (o : Option Held) → slice_get (map (with_specific (row_at keys k)) (threads_of o)) 0 ≡ Some t → (h : Held) × (o ≡ Some h) × (own keys threads fit k h ≡ t)
       by None is = absurd (none-some t is)
       by (Some h) is = (h, refl, same_Some (own keys threads fit k h) t is)
-
-  -- the thread with an id that is found on a slot is alone there
-  pub alone_here : (k tid : ℕ) (t : Thread) → k < length threads → option_and_then (thread_on tid) (slice_get slots k) ≡ Some t → (slice_get slots k ≡ Some (record { made = (slot_at threads k).made; here = t ∷ [] })) × (t.id ≡ tid)
-  alone_here k tid t inside found = by (held_at threads k) refl (sym (ap (option_and_then (thread_on tid)) (slot_here keys threads fit k inside)) ∙ found) where
-    by : (o : Option Held) → held_at threads k ≡ o → find (λ x. nat_eq x.id tid) (map (with_specific (row_at keys k)) (threads_of o)) ≡ Some t
-        → (slice_get slots k ≡ Some (record { made = (slot_at threads k).made; here = t ∷ [] })) × (t.id ≡ tid)
-    by None at is = absurd (none-some t is)
-    by (Some h) at is = either (nat_eq h.id tid) refl is where
-      either : (b : Bool) → nat_eq h.id tid ≡ b → cond b (Some (own keys threads fit k h)) None ≡ Some t → (slice_get slots k ≡ Some (record { made = (slot_at threads k).made; here = t ∷ [] })) × (t.id ≡ tid)
-      either true named same =
-          let one : own keys threads fit k h ≡ t = same_Some (own keys threads fit k h) t same in (
-            slot_here keys threads fit k inside
-                ∙ ap (λ (o : Option Held). Some (record { made = (slot_at threads k).made; here = map (with_specific (row_at keys k)) (threads_of o) })) at
-                ∙ ap (λ (x : Thread). Some (record { made = (slot_at threads k).made; here = x ∷ [] })) one,
-            ap (λ (x : Thread). x.id) (sym one) ∙ eqb-true h.id tid named,
-          )
-      either false named same = absurd (none-some t same)

@@ -10,13 +10,13 @@ use Rattle.pct_model.specs.declared.transition.SharedAction.{SharedAction}
 use Rattle.pct_model.specs.declared.transition.SharedAction.TheVariants as shared_action
 use Rattle.pct_model.specs.declared.transition.Transition.{Transition}
 use Rattle.pct_model.specs.Actions.{shared_moved}
-use Rattle.pct_model.specs.Keys.{KeyPlace, KeyValues, key_place, key_at, key_with, next_key, is_left}
+use Rattle.pct_model.specs.Keys.{KeyPlace, key_place, key_at, key_with, next_key}
 use Rattle.pct_model.specs.ThreadSlots.{holds_slot, is_ended_status, slot_of}
 use Rattle.pct_model.specs.World.{Thread, SharedState}
 use Rattle.pct_engine_laws.specs.Fitting.{Fits}
 use Rattle.pct_engine_laws.specs.Seen.{SeenSlot, slots_moved}
 use Rattle.pct_engine_laws.specs.SeenSteps.{thread_with, new_ids_from}
-use Rattle.pct_process.specs.ProcessViews.{ProcessData}
+use Rattle.pct_process.specs.ProcessViews.{thread_on_slot, ProcessData}
 
 -- ---- what it changes
 
@@ -35,12 +35,10 @@ pub record IsOnSlot (slots s : ℕ) (t : Thread) : Type 0 where
 abbrev pub AreOnSlots : List SeenSlot → Type 0
 AreOnSlots slots = (s : ℕ) (slot : SeenSlot) → slice_get slots s ≡ Some slot → All (IsOnSlot (length slots) s) slot.here
 
--- an action of a thread with this data fits the places for keys: a key that gets a value was made, and not deleted; and one whose
--- destructor is called is left in the thread's pass
-abbrev pub KeyFits : Option OwnAction → List KeyPlace → KeyValues → Type 0
-KeyFits (Some (own_action.SetSpecific k v)) places own = is_some (key_with k places) ≡ true
-KeyFits (Some (own_action.RunDestructor k f v)) places own = is_left places own (key_place k) ≡ true
-KeyFits _ places own = Unit {0}
+-- an action of a thread fits the places for keys: a key that gets a value was made, and not deleted
+abbrev pub KeyFits : Option OwnAction → List KeyPlace → Type 0
+KeyFits (Some (own_action.SetSpecific k v)) places = is_some (key_with k places) ≡ true
+KeyFits _ places = Unit {0}
 
 -- an action on what the threads share fits it: a key that is made has the next number on its place, which has none; and there is room
 -- for the functions that are registered with pthread_atfork or atexit
@@ -69,16 +67,16 @@ abbrev pub forgotten_key : Option NamedAction → Option ℕ
 forgotten_key (Some (named_action.ForgetKey k)) = Some k
 forgotten_key _ = None
 
--- a transition of the thread with an id fits the process: the thread holds its slot and has room for its action; the keys, what the
+-- a transition of the thread on slot k fits the process: there is such a thread, and it has room for its action; the keys, what the
 -- threads share and the threads that are named are as the actions need them; a key is deleted together with its values; and a thread that
 -- is created gets an id that a new thread can get
-pub record Makes (tid : ℕ) (o : Transition) (p : ProcessData) : Type 0 where
+pub record Makes (k : ℕ) (o : Transition) (p : ProcessData) : Type 0 where
   pub on_slots : AreOnSlots p.slots
   pub thread : Thread
-  pub here : thread_with (length p.slots) tid p.slots ≡ Some thread
+  pub here : thread_on_slot p.slots k ≡ Some thread
   pub fits : Fits (length thread.frames) (length thread.handlers) thread.pass o.own
-  pub keys : KeyFits o.own p.shared.keys thread.specific
+  pub keys : KeyFits o.own p.shared.keys
   pub shared : SharedFits o.shared p.shared
-  pub named : NamedFits tid o.named p.slots
+  pub named : NamedFits thread.id o.named p.slots
   pub forgets : deleted_key o.shared ≡ forgotten_key o.named
   pub created : IfSome o.created (λ new. list_any (nat_eq new.id) (new_ids_from (length p.slots) 0 p.slots) ≡ true)

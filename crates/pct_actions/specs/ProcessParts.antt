@@ -48,7 +48,7 @@ pub record OwnFits (slot : ℕ) (o : Transition) (p : ProcessData) : Type 0 wher
   pub thread : Thread
   pub here : slice_get p.slots slot ≡ Some (record { made = made; here = thread ∷ [] })
   pub fits : Fits (length thread.frames) (length thread.handlers) thread.pass o.own
-  pub keys : KeyFits o.own p.shared.keys thread.specific
+  pub keys : KeyFits o.own p.shared.keys
 
 -- the actions of a thread with this id fit what the threads share, and the threads that they name
 pub record OthersFit (o : Transition) (p : ProcessData) : Type 0 where

@@ -1,5 +1,5 @@
 -- What actions change in the tables beside the thread that makes it: in what the threads share, and in the threads that it names.
-use Rattle.std.specs.Prelude.{◌≡◌, ℕ, true, if◌then◌else◌, List, map, length, Option, Some, None, IfSome}
+use Rattle.std.specs.Prelude.{◌≡◌, ℕ, true, if◌then◌else◌, List, map, Option, Some, None, IfSome}
 use Rattle.std.specs.Option.{option_map_or}
 use Rattle.pct_model.specs.declared.state.Cause.{Cause}
 use Rattle.pct_model.specs.declared.state.Cause.TheVariants as cause
@@ -7,9 +7,8 @@ use Rattle.pct_model.specs.declared.transition.NamedAction.{NamedAction}
 use Rattle.pct_model.specs.declared.transition.NamedAction.TheVariants as named_action
 use Rattle.pct_model.specs.CondCalls.{is_waiting_on, unblocked}
 use Rattle.pct_model.specs.Keys.{key_place, without_value}
-use Rattle.pct_model.specs.ThreadSlots.{slot_of}
-use Rattle.pct_threads.specs.Slots.{Held, Slot, has_id, after_detach, after_change, with_change, freed}
-use Rattle.pct_threads.specs.Tables.{slot_at, is_reclaimable_at, on_slot}
+use Rattle.pct_threads.specs.Slots.{Held, Slot, after_detach, after_change, with_change, freed}
+use Rattle.pct_threads.specs.Tables.{slot_named, is_reclaimable_at, on_slot}
 use Rattle.pct_engine_laws.specs.Seen.{SeenSlot}
 use Rattle.pct_actions.specs.ProcessParts.{on_threads}
 
@@ -21,10 +20,6 @@ forgotten None slots = slots
 forgotten (Some k) slots = map (on_threads (λ t. record t { specific = without_value (key_place k) t.specific })) slots
 
 -- ---- threads that are named
-
--- the slot of the thread with an id, if the thread holds it
-abbrev pub slot_named : ℕ → List Slot → Option ℕ
-slot_named id threads = if has_id id (slot_at threads (slot_of (length threads) id)) then Some (slot_of (length threads) id) else None
 
 -- the table of threads after a change of this slot, if there is such a thread
 abbrev pub on_named : ℕ → (Slot → Slot) → List Slot → List Slot

@@ -1,6 +1,7 @@
 //! What a transition of a thread changes in its process.
 
-ghost use Rattle.std.specs.Prelude.{◌≡◌};
+ghost use Rattle.std.specs.Prelude.{◌≡◌, ℕ};
+ghost use Rattle.pct_process.specs.ProcessViews.{HoldsOneSlot};
 ghost use Rattle.pct_actions.specs.ProcessChanges.{data_moved, Makes};
 ghost use Rattle.pct_actions.specs.ProcessParts.{created_made, NewFits};
 
@@ -9,13 +10,14 @@ use crate::shared_actions::act_on_others;
 use pct_model::{NewThread, Transition};
 use pct_process::ProcessState;
 
-/// Makes the changes of a transition of the thread with an id, which fits the process. The end of the process, a process that is made
+/// Makes the changes of a transition of the thread on a slot, which fits the process. The end of the process, a process that is made
 /// or reaped, and the stop of the run are not among them.
-pub fn make(process: &mut ProcessState, tid: u32, transition: &Transition)
-    requires { Makes tid transition.now process.old }
-    ensures { process.new ≡ data_moved tid transition.now process.old }
+pub fn make(process: &mut ProcessState, slot: u32, transition: &Transition)
+    requires { Makes slot transition.now process.old }
+    ensures { (tid : ℕ) → HoldsOneSlot tid slot process.old.slots → process.new ≡ data_moved tid transition.now process.old }
 {
-    let slot = process.threads.slot_of(tid);
+    // A slot has at most one thread.
+    let _count = process.slot_count();
     make_own(process, slot, transition);
     act_on_others(process, transition);
     create(process, transition.created);

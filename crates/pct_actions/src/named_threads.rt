@@ -2,10 +2,10 @@
 
 ghost use Rattle.std.specs.Prelude.{◌≡◌, IfSome, length, map, true};
 ghost use Rattle.pct_model.specs.declared.state.Cause.TheVariants as cause;
-ghost use Rattle.pct_model.specs.CondCalls.{is_waiting_on, unblocked};
+ghost use Rattle.pct_model.specs.CondCalls.{unblocked};
 ghost use Rattle.pct_threads.specs.Slots.{after_detach, after_change, with_change, freed};
-ghost use Rattle.pct_threads.specs.Tables.{is_occupied_at, is_reclaimable_at, on_held};
-ghost use Rattle.pct_actions.specs.SharedChanges.{slot_named, named_on, on_named, requested, woken, woken_from, NameFits};
+ghost use Rattle.pct_threads.specs.Tables.{slot_named, is_occupied_at, is_reclaimable_at, on_held};
+ghost use Rattle.pct_actions.specs.SharedChanges.{named_on, on_named, requested, woken, woken_from, NameFits};
 
 use pct_model::{Cause, NamedAction, Status};
 use pct_threads::Threads;
@@ -34,7 +34,7 @@ fn end_join(threads: &mut Threads, id: u32)
     ensures table { threads.new ≡ on_named id freed threads.old }
     ensures length { length threads.new ≡ length threads.old }
 {
-    if let Some(target) = slot_named(threads, id) {
+    if let Some(target) = threads.slot_named(id) {
         threads.reclaim(target);
     }
 }
@@ -44,7 +44,7 @@ fn request(threads: &mut Threads, id: u32)
     ensures table { threads.new ≡ on_named id (with_change requested) threads.old }
     ensures length { length threads.new ≡ length threads.old }
 {
-    if let Some(target) = slot_named(threads, id) {
+    if let Some(target) = threads.slot_named(id) {
         request_on(threads, target);
     }
 }
@@ -54,7 +54,7 @@ fn detach(threads: &mut Threads, id: u32)
     ensures table { threads.new ≡ on_named id (after_change after_detach) threads.old }
     ensures length { length threads.new ≡ length threads.old }
 {
-    if let Some(target) = slot_named(threads, id) {
+    if let Some(target) = threads.slot_named(id) {
         threads.detach(target);
     }
 }
@@ -64,7 +64,7 @@ fn wake(threads: &mut Threads, id: u32)
     ensures table { threads.new ≡ on_named id (with_change (woken cause.Signalled)) threads.old }
     ensures length { length threads.new ≡ length threads.old }
 {
-    if let Some(target) = slot_named(threads, id) {
+    if let Some(target) = threads.slot_named(id) {
         wake_on(threads, target);
     }
 }
@@ -111,18 +111,8 @@ fn wake_waiter_on(threads: &mut Threads, slot: u32, cond: u32)
     ensures length { length threads.new ≡ length threads.old }
 {
     let thread = threads.write(slot);
-    if is_waiting_on(cond, thread.status) {
+    if thread.is_waiting_on(cond) {
         thread.status = unblocked(Cause::Broadcast, thread.status);
-    }
-}
-
-// The status is that of a thread that waits on the condition variable with this index.
-fn is_waiting_on(cond: u32, status: Status) -> bool
-    ensures { result ≡ is_waiting_on cond status }
-{
-    match status {
-        Status::Waiting(waited, _) => waited == cond,
-        _ => false,
     }
 }
 
@@ -133,18 +123,5 @@ fn unblocked(why: Cause, status: Status) -> Status
     match status {
         Status::Waiting(cond, mutex) => Status::Reacquire(cond, mutex, why),
         _ => status,
-    }
-}
-
-// The slot of the thread with an id. `None` if no thread with the id holds its slot.
-fn slot_named(threads: &Threads, id: u32) -> Option<u32>
-    ensures value { result ≡ slot_named id threads.now }
-    ensures occupied { IfSome result (λ slot. is_occupied_at threads.now slot ≡ true) }
-{
-    let slot = threads.slot_of(id);
-    if threads.has_id(slot, id) {
-        Some(slot)
-    } else {
-        None
     }
 }

@@ -3,7 +3,6 @@
 ghost use Rattle.std.specs.Prelude.{◌≡◌, ◌<◌, length};
 ghost use Rattle.std.specs.Option.{option_to_list};
 ghost use Rattle.pct_model.specs.Actions.{globals_written, written};
-ghost use Rattle.pct_keys.specs.Tables.{row_at};
 ghost use Rattle.pct_actions.specs.OwnChanges.{own_rows};
 ghost use Rattle.pct_actions.specs.ProcessChanges.{KeyFits};
 ghost use Rattle.pct_actions.specs.ProcessParts.{own_made, OwnFits};
@@ -27,18 +26,14 @@ pub(crate) fn make_own(process: &mut ProcessState, slot: u32, transition: &Trans
 #[tactic(auto, unfolding(crate::specs::OwnChanges::own_rows), using(crate::proofs::OwnThread::key_here))]
 fn change_data(keys: &mut Keys, slot: u32, action: Option<OwnAction>)
     requires row { slot < length keys.old.rows }
-    requires fits { KeyFits action keys.old.places (row_at keys.old slot) }
+    requires fits { KeyFits action keys.old.places }
     ensures table { keys.new ≡ record keys.old { rows = own_rows slot action keys.old.rows } }
     ensures length { length keys.new.rows ≡ length keys.old.rows }
 {
     match action {
         Some(OwnAction::SetSpecific(key, value)) => keys.set(slot, key_place(key), value),
-        Some(OwnAction::BeginPass) => {
-            let _due = keys.pass_begin(slot);
-        }
-        Some(OwnAction::RunDestructor { key, .. }) => {
-            let _taken = keys.pass_take(slot, key_place(key));
-        }
+        Some(OwnAction::BeginPass) => keys.begin_pass(slot),
+        Some(OwnAction::RunDestructor { key, .. }) => keys.take_out(slot, key_place(key)),
         _ => {}
     }
 }

@@ -27,7 +27,7 @@ waits = refl
 abbrev index_of_name : List ℕ → Option ℕ
 index_of_name name = option_map (λ p. p.index) (point_of name)
 
--- the four points that the machine's definitions name by a constant
+-- the five points that the machine's definitions name by a constant
 named_indexes : (index_of_name (codes "pthread_cond_wait") ≡ Some COND_WAIT_POINT) × (index_of_name (codes "pthread_join") ≡ Some JOIN_POINT)
     × (index_of_name (codes "pthread_testcancel") ≡ Some TESTCANCEL_POINT) × (index_of_name (codes "sem_wait") ≡ Some SEM_WAIT_POINT) × (index_of_name (codes "waitpid") ≡ Some WAITPID_POINT)
 unfolding points point_of

@@ -35,7 +35,7 @@ pub record StandsFor (program : ProgramValue) (trace : TraceValue) (machine : Se
 abbrev pub IsRunOf : EngineValue → Run → Type 0
 IsRunOf engine after = run engine.script engine.config engine.history ≡ Some after
 
--- the run of an engine keeps the laws of how threads end, and its state keeps the invariant
+-- the run of an engine keeps the laws of runs, and its state keeps the invariant
 pub record KeepsLaws (engine : EngineValue) (after : Run) : Type 0 where
   pub laws : Laws engine.script engine.config engine.history after
   pub kept : Kept engine.script engine.config after.world after.events

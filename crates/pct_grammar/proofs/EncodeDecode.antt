@@ -244,6 +244,10 @@ named_decodes w index is =
     ap (λ (v : List ℕ). option_map_or (nat_eq index) (point_statement v) false) (named_statement w index is).0
     ∙ ap (λ (o : Option ℕ). option_map_or (nat_eq index) o false) is ∙ same_number index
 
+-- the line kind of a word that names such a point
+pub named_kind : (w : List ℕ) (index : ℕ) → point_statement w ≡ Some index → line_kind_of w ≡ Some (line_kind.Point index)
+named_kind w index is = ap line_kind_of (sym (named_statement w index is).0) ∙ point_found index (own index (named_decodes w index is))
+
 found_first : (w : List ℕ) (index : ℕ) → line_kind_of w ≡ Some (line_kind.Point index) → option_map_or (nat_eq index) (point_statement (point_name index)) false ≡ true
 unfolding line_kind_of
 found_first w index is = named_decodes w index (point_parses w index _ (point_statement w) refl is)

@@ -4,10 +4,9 @@ ghost use Rattle.std.specs.Io.KnownBytes.{WriteAppends};
 ghost use Rattle.pct_io.specs.ErrorCounts.{HasCause};
 ghost use Rattle.pct_io.specs.Inners.{KeepsInners};
 ghost use Rattle.pct_io.specs.Sinks.{Accepts, accepted_of};
-ghost use Rattle.pct_io.specs.Writes.{Writes};
 ghost use Rattle.pct_io.specs.Buffered.{buffered, inners_through, KeepsWritten, PassesThrough};
 
-use crate::read_write::{write_all, write_prefix};
+use crate::read_write::write_prefix;
 use crate::write_buffer::{CAPACITY, WriteBuffer};
 use crate::{Failed, Sink};
 
@@ -82,13 +81,4 @@ impl<K: Sink> Sink for BufferedSink<'_, K> {
         }
         Ok(self.buffer.fill(piece))
     }
-}
-
-/// Writes the whole piece through a temporary buffered sink, as `write_all` writes it.
-pub fn write_buffered<K: Sink>(sink: &mut K, piece: &[u8]) -> Result<(), Failed>
-    ensures { Writes K.written K.errors K.inners sink.old sink.new piece.now result }
-{
-    let mut out = BufferedSink::new(sink);
-    write_all(&mut out, piece)?;
-    out.flush()
 }

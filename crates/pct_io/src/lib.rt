@@ -14,7 +14,7 @@ mod source;
 mod std_streams;
 mod write_buffer;
 
-pub use buffered_sink::{BufferedSink, write_buffered};
+pub use buffered_sink::BufferedSink;
 pub use failed::{Failed, NoMemory, ReadEnd};
 pub use gate::{Gate, NoGate};
 pub use line::{Field, prepend_line, write_line, write_spaced_field};

@@ -57,14 +57,6 @@ impl Keys {
         })
     }
 
-    /// Each table is sound. Nothing is done: the clause is for the proofs of callers.
-    #[inline(always)]
-    pub fn sound(&self)
-        ensures { IsSound self.now }
-    {
-        let _places = &self.places;
-    }
-
     // ---- keys
 
     /// The place of the key with this number. It is `None` exactly if there is none.
@@ -229,8 +221,16 @@ impl Keys {
         ensures table { self.new ≡ on_row slot with_pass self.old }
     {
         let count = self.due(slot);
-        self.rows[slot as usize].begin_pass();
+        self.begin_pass(slot);
         count
+    }
+
+    /// The same, without the number: begins a pass of the thread on the slot.
+    pub fn begin_pass(&mut self, slot: u32)
+        requires { slot < length self.old.rows }
+        ensures { self.new ≡ on_row slot with_pass self.old }
+    {
+        self.rows[slot as usize].begin_pass();
     }
 
     /// Whether the key on the place is left in the pass of the thread on the slot: it was due when the pass began and is due now, and
@@ -295,8 +295,17 @@ impl Keys {
             unreachable!()
         };
         let value = self.get(slot, place);
-        self.rows[slot as usize].clear(place);
+        self.take_out(slot, place);
         (destructor, value)
+    }
+
+    /// Takes the place out of the pass of the thread on the slot, and makes its value there 0.
+    pub fn take_out(&mut self, slot: u32, place: u32)
+        requires slot { slot < length self.old.rows }
+        requires place { place < MAX_KEYS }
+        ensures { self.new ≡ on_row slot (without_value place) self.old }
+    {
+        self.rows[slot as usize].clear(place);
     }
 
     // ---- rows

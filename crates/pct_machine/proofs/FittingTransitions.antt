@@ -7,12 +7,12 @@ use Rattle.pct_engine_laws.specs.Fitting.{Fits}
 use Rattle.pct_engine_laws.specs.SeenSteps.{thread_with, new_ids_from, others_in, choices_in, transition_in}
 use Rattle.pct_transition_cases.proofs.CaseOfTransition.{case_of}
 use Rattle.pct_transition_cases.proofs.TransitionCases.{TransitionCase, thread_made, join_ended, key_made, key_deleted, specific_set}
-use Rattle.pct_transition_cases.proofs.TransitionCases.{destructor_called, fork_registered, exit_registered}
-use Rattle.pct_process.specs.ProcessViews.{ProcessData}
-use Rattle.pct_transitions.specs.Numbers.{AreOnPlaces}
+use Rattle.pct_transition_cases.proofs.TransitionCases.{fork_registered, exit_registered}
+use Rattle.pct_process.specs.ProcessViews.{thread_on_slot, ProcessData}
 use Rattle.pct_transitions.specs.ProcessSteps.{with_data}
-use Rattle.pct_transitions.proofs.KeyChoices.{new_fits, left_fits}
+use Rattle.pct_transitions.proofs.KeyChoices.{new_fits}
 use Rattle.pct_actions.specs.ProcessChanges.{AreOnSlots, KeyFits, SharedFits, NamedFits, deleted_key, forgotten_key, Makes}
+use Rattle.pct_machine.proofs.HeldSlots.{held_by}
 
 -- ---- keys
 
@@ -22,7 +22,7 @@ is_there (Some key) none = refl
 
 -- ---- the transition of a thread, by a choice that is offered
 
-module _ (script : Script) (passes tid : ℕ) (family : Family) (d : ProcessData) (t : Thread) (choice : Alt) (found : thread_with (length d.slots) tid d.slots ≡ Some t) where
+module _ (script : Script) (passes : ℕ) (family : Family) (d : ProcessData) (k : ℕ) (t : Thread) (choice : Alt) (placed : AreOnSlots d.slots) (here : thread_on_slot d.slots k ≡ Some t) where
   abbrev slots : ℕ
   slots = length d.slots
 
@@ -34,10 +34,9 @@ module _ (script : Script) (passes tid : ℕ) (family : Family) (d : ProcessData
   abbrev Case : Others → NextStatement → Status → Transition → Type 0
   Case others next s o = TransitionCase passes (body_at script t.frames) d.shared t others true next s o
 
-  key_fits : AreOnPlaces d.shared.keys → {others : Others} {next : NextStatement} {s : Status} {o : Transition} → Case others next s o → KeyFits o.own d.shared.keys t.specific
-  key_fits on (specific_set frame key v named) = is_there _ named
-  key_fits on (destructor_called next k f key none is destructor among) = left_fits d.shared.keys t.specific k on (among refl)
-  key_fits on _ = tt
+  key_fits : {others : Others} {next : NextStatement} {s : Status} {o : Transition} → Case others next s o → KeyFits o.own d.shared.keys
+  key_fits (specific_set frame key v named) = is_there _ named
+  key_fits _ = tt
 
   shared_fits : {others : Others} {next : NextStatement} {s : Status} {o : Transition} → Case others next s o → SharedFits o.shared d.shared
   shared_fits (key_made frame result key destructor k among) = new_fits d.shared.keys k (among refl)
@@ -45,11 +44,11 @@ module _ (script : Script) (passes tid : ℕ) (family : Family) (d : ProcessData
   shared_fits (exit_registered frame result f may) = ltb-true (length d.shared.exit_functions) 32 (and_parts _ _ may).0
   shared_fits _ = tt
 
-  named_fits : {next : NextStatement} {s : Status} {o : Transition} → t.status ≡ s → Case (others_in slots family d.slots t.id) next s o → NamedFits tid o.named d.slots
+  named_fits : {next : NextStatement} {s : Status} {o : Transition} → t.status ≡ s → Case (others_in slots family d.slots t.id) next s o → NamedFits t.id o.named d.slots
   unfolding others_in
   named_fits at (join_ended frame operand e id v target is ended) =
       let has_ended : is_ended_status target.status ≡ true = ap is_ended_status ended in (
-        λ same. let mover : target ≡ t = same_Some target t (sym is ∙ ap (λ (k : ℕ). thread_with slots k d.slots) same ∙ found) in false≢true (sym (ap is_ended_status at) ∙ ap (λ (u : Thread). is_ended_status u.status) (sym mover) ∙ has_ended),
+        λ same. let mover : target ≡ t = same_Some target t (sym is ∙ ap (λ (n : ℕ). thread_with slots n d.slots) same ∙ (held_by d.slots placed k t here).1) in false≢true (sym (ap is_ended_status at) ∙ ap (λ (u : Thread). is_ended_status u.status) (sym mover) ∙ has_ended),
         subst (λ (o : Option Thread). IfSome o (λ u. is_ended_status u.status ≡ true)) (sym is) has_ended,
       )
   named_fits at _ = tt
@@ -64,8 +63,8 @@ module _ (script : Script) (passes tid : ℕ) (family : Family) (d : ProcessData
   created_fits _ = tt
 
   -- the transition that it takes fits the process
-  pub taken_fits : AreOnSlots d.slots → AreOnPlaces d.shared.keys → Fits (length t.frames) (length t.handlers) t.pass taken.own → offers (choices_in script slots family (with_data d) t) choice ≡ true → Makes tid taken d
-  taken_fits placed on fits offered =
+  pub taken_fits : Fits (length t.frames) (length t.handlers) t.pass taken.own → offers (choices_in script slots family (with_data d) t) choice ≡ true → Makes k taken d
+  taken_fits fits offered =
       let others : Others = others_in slots family d.slots t.id in
       let next : NextStatement = next_of script t.frames in
       let body : List Stmt = body_at script t.frames in
@@ -73,9 +72,9 @@ module _ (script : Script) (passes tid : ℕ) (family : Family) (d : ProcessData
       record {
         on_slots = placed;
         thread = t;
-        here = found;
+        here = here;
         fits = fits;
-        keys = key_fits on its_case;
+        keys = key_fits its_case;
         shared = shared_fits its_case;
         named = named_fits refl its_case;
         forgets = forgets its_case;

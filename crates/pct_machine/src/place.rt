@@ -11,21 +11,11 @@ use pct_transitions::{Surroundings, choice_by, takes};
 use std::alloc::Global;
 use std::marker::Model;
 
-/// The ids and the end of a process.
-#[derive(Clone, Copy)]
-pub struct ProcessEntry {
-    /// Its id.
-    pub pid: u32,
-    /// The id of its parent, 0 if it has none.
-    pub parent: u32,
-    /// The exit status, if it has ended.
-    pub ended: Option<u32>,
-}
-
 /// A place of a machine for a process. In a contract it is what is kept of the process.
 #[derive(Drop)]
 pub(crate) struct Place {
-    entry: ProcessEntry,
+    /// The ids and the end of the process.
+    relative: Relative,
     state: ProcessState,
 }
 
@@ -34,7 +24,7 @@ impl Model for Place {
 
     ghost Value = { SeenProcess };
 
-    ghost view = { λ p. record { pid = p.entry.pid; parent = p.entry.parent; ended = p.entry.ended; slots = p.state.slots; shared = p.state.shared } };
+    ghost view = { λ p. record { pid = p.relative.pid; parent = p.relative.parent; ended = p.relative.ended; slots = p.state.slots; shared = p.state.shared } };
 }
 
 impl Place {
@@ -59,7 +49,7 @@ impl Place {
         ensures { IfOk result (λ place. place ≡ seen_process slots (first_process script.now)) }
     {
         Ok(Place {
-            entry: ProcessEntry {
+            relative: Relative {
                 pid: 1,
                 parent: 0,
                 ended: None,
@@ -71,7 +61,7 @@ impl Place {
     /// A place that is free, with the memory for a child process. `NoMemory` is returned if there is none.
     pub fn reserve(alloc: Global) -> Result<Place, NoMemory> {
         Ok(Place {
-            entry: ProcessEntry {
+            relative: Relative {
                 pid: 0,
                 parent: 0,
                 ended: None,
@@ -84,32 +74,28 @@ impl Place {
     pub fn pid(&self) -> u32
         ensures { result ≡ self.now.pid }
     {
-        self.entry.pid
+        self.relative.pid
     }
 
     /// The ids and the end of the process.
     pub fn relative(&self) -> Relative
         ensures { result ≡ relative_in self.now }
     {
-        Relative {
-            pid: self.entry.pid,
-            parent: self.entry.parent,
-            ended: self.entry.ended,
-        }
+        self.relative
     }
 
     /// Whether the process has this id and has not ended.
     pub fn is_live(&self, pid: u32) -> bool
         ensures { result ≡ is_live_seen pid self.now }
     {
-        self.entry.pid == pid && self.entry.ended.is_none()
+        self.relative.pid == pid && self.relative.ended.is_none()
     }
 
     /// Whether the process has ended.
     pub fn has_ended(&self) -> bool
         ensures { result ≡ is_some self.now.ended }
     {
-        self.entry.ended.is_some()
+        self.relative.ended.is_some()
     }
 
     /// The slots of the threads that are ready. A process that has ended has none.
@@ -141,7 +127,7 @@ impl Place {
         let alt = choice_by(around, &self.state, slot, draw.choice)?;
         Some(Entry {
             worker: draw.worker,
-            pid: self.entry.pid,
+            pid: self.relative.pid,
             tid: self.state.id_on(slot),
             alt,
         })
@@ -153,7 +139,7 @@ impl Place {
         ensures { ShowsProcess around.entry.program.now (other_processes around.entry.family) self.now result }
     {
         ProcessView {
-            pid: self.entry.pid,
+            pid: self.relative.pid,
             has_ended: self.has_ended(),
             state: &self.state,
             around,
@@ -175,7 +161,7 @@ impl Place {
         if !takes(around, &self.state, slot, entry.alt, transition) {
             return false;
         }
-        make(&mut self.state, entry.tid, transition);
+        make(&mut self.state, slot, transition);
         true
     }
 
@@ -187,9 +173,9 @@ impl Place {
         let Some(slot) = parent.state.slot_with(tid) else {
             return;
         };
-        self.entry = ProcessEntry {
+        self.relative = Relative {
             pid,
-            parent: parent.entry.pid,
+            parent: parent.relative.pid,
             ended: None,
         };
         self.state.inherit(&parent.state, slot);
@@ -214,20 +200,20 @@ impl Place {
         ensures { process_changed pid (process_action.End status) self.old ≡ (if result then self.new ∷ [] else []) }
     {
         if self.is_live(pid) {
-            self.entry.ended = Some(status);
-            return self.entry.parent != 0;
+            self.relative.ended = Some(status);
+            return self.relative.parent != 0;
         }
-        if self.entry.parent != pid {
+        if self.relative.parent != pid {
             return true;
         }
-        self.entry.parent = 0;
-        self.entry.ended.is_none()
+        self.relative.parent = 0;
+        self.relative.ended.is_none()
     }
 
     // Whether the process has this id and has ended.
     fn is_ended(&self, pid: u32) -> bool
         ensures { result ≡ (nat_eq self.now.pid pid && is_some self.now.ended) }
     {
-        self.entry.pid == pid && self.entry.ended.is_some()
+        self.relative.pid == pid && self.relative.ended.is_some()
     }
 }

@@ -1,6 +1,6 @@
 -- What a transition changes: the thread that makes it, a thread that it names, the state that the threads of its process share,
 -- the process, the other processes, and the run; and the process that it makes. The thread that makes it and its process are looked up
--- once, before the first action.
+-- by their ids before the first action. Where a process is made, the thread is looked up once more, after its changes.
 use Rattle.std.specs.Prelude.{ℕ, suc, Bool, true, false, not, ◌&&◌, if◌then◌else◌, List, [], ◌∷◌, ◌++◌, map, flat_map, Option, Some, None, is_some, nat_eq, slice_set}
 use Rattle.pct_model.specs.declared.frame.Frame.{Frame}
 use Rattle.pct_model.specs.declared.state.FrameKind.TheVariants as kind

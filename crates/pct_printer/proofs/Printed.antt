@@ -1,9 +1,9 @@
 -- The bytes of a script's lines, in the order in which they are written.
 use Rattle.pct_names.proofs.Names.{◌+◌, ◌++◌, ◌<◌, [], ap, Argument, argument_text, argument_texts, ArgumentKind, arith, Contents, decimal}
 use Rattle.pct_names.proofs.Names.{declaration_line, drop, drop-cons, drop_all, flat_map, flat_map-cons, flat_map-map, Func, function_lines}
-use Rattle.pct_names.proofs.Names.{get_or, get_or_from_slice_get, inl, inr, join_with_byte, length, line_text, List, map, None, Option}
-use Rattle.pct_names.proofs.Names.{option_map_or, point_name, points, refl, Row, script_lines, SemDecl, slice_get, slice_get_cases}
-use Rattle.pct_names.proofs.Names.{slice_get_past, slice_get_within, Some, statement_words, suc, sym, text_of, ℕ, ◌∙◌, ◌∷◌, ◌≡◌, ◌≤◌, ◌⊎◌}
+use Rattle.pct_names.proofs.Names.{get_or, get_or_from_slice_get, inl, inr, join_with_byte, length, line_text, List, map, None, refl}
+use Rattle.pct_names.proofs.Names.{script_lines, SemDecl, slice_get, slice_get_cases, slice_get_within, Some, statement_words, suc, sym}
+use Rattle.pct_names.proofs.Names.{text_of, ℕ, ◌∙◌, ◌∷◌, ◌≡◌, ◌≤◌, ◌⊎◌}
 use Rattle.std.proofs.Common.{append_assoc}
 use Rattle.std.proofs.lemmas.List.{append-nil}
 use Rattle.std.proofs.lemmas.Grind.{flat_map-append}
@@ -24,11 +24,6 @@ pub line_of_two : (w next : List ℕ) (words : List (List ℕ)) → line_text (w
 line_of_two w next words =
     line_is w (next ∷ words)
     ∙ ap (λ line. line ++ 10 ∷ []) (ap (λ rest. w ++ rest) (flat_map-cons (λ (x : List ℕ). 32 ∷ x) next words) ∙ sym (append_assoc w (32 ∷ next) (spaced words)))
-
--- no point has an index past the table's end
-pub no_point : (index : ℕ) → 58 ≤ index → point_name index ≡ []
-unfolding points point_name
-no_point index past = ap (λ (o : Option Row). option_map_or (λ r. r.name) o []) (slice_get_past points index past)
 
 -- the argument kind at an index, and those after it
 argument_kind_first : (argument_kinds : List ArgumentKind) (at : ℕ) (p : ArgumentKind) → slice_get argument_kinds at ≡ Some p → drop at argument_kinds ≡ p ∷ drop (suc at) argument_kinds

@@ -6,14 +6,13 @@ ghost use Rattle.pct_io.specs.Writes.{Writes};
 ghost use Rattle.pct_model.specs.declared.line_kind.SymbolKind.TheVariants as kind;
 ghost use Rattle.pct_model.specs.Keywords.{line_text, text_of};
 ghost use Rattle.pct_model.specs.LineKinds.{syntax_of};
-ghost use Rattle.pct_model.specs.Points.{point_name};
 ghost use Rattle.pct_model.specs.Spells.{contents_of};
 ghost use Rattle.pct_model.specs.Canon.{argument_text, statement_words, declaration_line, function_lines, canon};
 ghost use Rattle.pct_printer.specs.Printing.{spaced, names_text, sems_text, two_kinds_text, all_names_text, declarations_text, fn_text, arguments_text, body_text, functions_text};
 
 use crate::argument_text::argument_field;
 use crate::encode::{EncodedStmt, encode};
-use pct_cancel::write_point;
+use pct_cancel::point_name;
 use pct_io::{BufferedSink, Failed, Field, Sink, write_all, write_line, write_spaced_field};
 use pct_model::{Argument, ArgumentKind, Func, LineKind, Name, Script, SemDecl, Stmt, SymbolKind};
 
@@ -217,19 +216,8 @@ fn write_first_word<K: Sink>(sink: &mut K, line_kind: LineKind) -> Result<(), Fa
     ensures { Writes K.written K.errors K.inners sink.old sink.new (syntax_of line_kind).keyword result }
 {
     match line_kind {
-        LineKind::Point(index) => write_name_of_point(sink, index),
+        LineKind::Point(index) => write_all(sink, point_name(index)),
         _ => write_all(sink, line_kind.keyword().unwrap()),
-    }
-}
-
-// The name of the point with this index, or nothing if there is no such point.
-fn write_name_of_point<K: Sink>(sink: &mut K, index: u32) -> Result<(), Failed>
-    ensures { Writes K.written K.errors K.inners sink.old sink.new (point_name index) result }
-{
-    if index < 58 {
-        write_point(index, sink)
-    } else {
-        Ok(())
     }
 }
 

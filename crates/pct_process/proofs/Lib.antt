@@ -2,4 +2,4 @@ pub mod RowViews
 pub mod ViewedSlots
 mod FirstProcess
 mod InheritedData
-mod LastThread
+pub mod LastThread

@@ -1,14 +1,15 @@
 -- The slots of a process, read from its tables.
-use Rattle.pct_names.proofs.Names.{◌<◌, [], All, ap, arith, Bool, cases_lt, cond, false, false≢true, find, get_or_from_slice_get}
-use Rattle.pct_names.proofs.Names.{get_or_past, inl, inr, is_some, KeyValues, length, length-map, List, map, nat_eq, None, none-some}
-use Rattle.pct_names.proofs.Names.{Option, option_and_then, option_map, option_map_or, refl, same_Some, slice_get, slot_of, Some, subst}
-use Rattle.pct_names.proofs.Names.{sym, Thread, true, ℕ, ◌∙◌, ◌≡◌, ◌≤◌}
+use Rattle.pct_names.proofs.Names.{◌<◌, [], All, ap, arith, Bool, cases_lt, cond, false, find, get_or_from_slice_get, get_or_past, IfSome}
+use Rattle.pct_names.proofs.Names.{inl, inr, is_some, KeyValues, length, length-map, List, map, nat_eq, None, none-some, Option}
+use Rattle.pct_names.proofs.Names.{option_and_then, option_map, option_map_or, refl, same_Some, slice_get, slot_of, Some, subst, sym}
+use Rattle.pct_names.proofs.Names.{Thread, true, ℕ, ◌∙◌, ◌≡◌, ◌≤◌}
+use Rattle.std.specs.Prelude.{IfNone}
 use Rattle.std.proofs.lemmas.List.{get_or-map}
 use Rattle.pct_set.specs.Slots.{slots_where}
 use Rattle.pct_set.proofs.SlotLemmas.{slots_agree}
 use Rattle.pct_threads.specs.declared.record.Place.{Place}
 use Rattle.pct_threads.specs.Slots.{Held, Slot, unused, has_id, place_of}
-use Rattle.pct_threads.specs.Tables.{slot_at, held_at, is_occupied_at, place_at}
+use Rattle.pct_threads.specs.Tables.{slot_at, slot_named, held_at, is_occupied_at, place_at}
 use Rattle.pct_keys.specs.Tables.{Table, row_at}
 use Rattle.pct_engine_laws.specs.Seen.{SeenSlot}
 use Rattle.pct_engine_laws.specs.SeenSteps.{thread_on, thread_with}
@@ -71,28 +72,35 @@ module _ (keys : Table) (threads : List Slot) (fit : length keys.rows ≡ length
   found_here id k None = refl
   found_here id k (Some h) = refl
 
-  -- the thread with an id is looked for on the slot of the id
-  pub thread_with-is : (id k : ℕ) → k ≡ slot_of (length threads) id → k < length threads → thread_with (length slots) id slots ≡ cond (has_id id (slot_at threads k)) (thread_on_slot slots k) None
-  thread_with-is id k is inside =
-      ap (λ (i : ℕ). option_and_then (thread_on id) (slice_get slots i)) (ap (λ (n : ℕ). slot_of n id) length-slots_of ∙ sym is)
-      ∙ ap (option_and_then (thread_on id)) (slot_here k inside)
-      ∙ found_here id k (held_at threads k)
-      ∙ ap (λ (o : Option Thread). cond (has_id id (slot_at threads k)) o None) (sym (thread_on_slot-is k))
+  named_on : (has : Bool) (k : ℕ) → cond has (thread_on_slot slots k) None ≡ option_and_then (thread_on_slot slots) (cond has (Some k) None)
+  named_on true k = refl
+  named_on false k = refl
 
-  has_by : (k : ℕ) (o : Option Held) → option_map_or (λ h. nat_eq h.id k) o false ≡ true → is_some o ≡ true
-  has_by k None has = absurd (false≢true has)
-  has_by k (Some h) has = refl
+  module _ (id : ℕ) (found : Option ℕ) (is : found ≡ slot_named id threads) (some : 1 ≤ length threads) where
+    -- the thread with an id is that on the slot that the id names
+    pub thread_with-is : thread_with (length slots) id slots ≡ option_and_then (thread_on_slot slots) found
+    thread_with-is =
+        let k : ℕ = slot_of (length threads) id in
+        ap (λ (n : ℕ). option_and_then (thread_on id) (slice_get slots (slot_of n id))) length-slots_of
+        ∙ ap (option_and_then (thread_on id)) (slot_here k (omega (arith, some)))
+        ∙ found_here id k (held_at threads k)
+        ∙ ap (λ (o : Option Thread). cond (has_id id (slot_at threads k)) o None) (sym (thread_on_slot-is k))
+        ∙ named_on (has_id id (slot_at threads k)) k
+        ∙ ap (option_and_then (thread_on_slot slots)) (sym is)
 
-  -- a look-up of an id whose slot has a thread with the id finds that thread
-  pub looked_up : (id k : ℕ) → k ≡ slot_of (length threads) id → k < length threads → has_id id (slot_at threads k) ≡ true → HoldsThread (thread_with (length slots) id slots) (thread_on_slot slots k)
-  looked_up id k is inside has = record {
-    same = thread_with-is id k is inside ∙ ap (λ (b : Bool). cond b (thread_on_slot slots k) None) has;
-    some = ap (λ (o : Option Thread). is_some o) (thread_on_slot-is k) ∙ held_on k (held_at threads k) ∙ has_by id (held_at threads k) has;
-  }
+    -- a look-up finds the thread on that slot
+    pub looked_up : IfSome found (λ k. is_occupied_at threads k ≡ true) → IfSome found (λ k. HoldsThread (thread_with (length slots) id slots) (thread_on_slot slots k))
+    looked_up held = by found thread_with-is held where
+      by : (o : Option ℕ) → thread_with (length slots) id slots ≡ option_and_then (thread_on_slot slots) o → IfSome o (λ k. is_occupied_at threads k ≡ true) → IfSome o (λ k. HoldsThread (thread_with (length slots) id slots) (thread_on_slot slots k))
+      by None same held = tt
+      by (Some k) same held = record { same = same; some = occupied_is k ∙ held }
 
-  -- and else it finds none
-  pub not_looked_up : (id k : ℕ) → k ≡ slot_of (length threads) id → k < length threads → has_id id (slot_at threads k) ≡ false → thread_with (length slots) id slots ≡ None
-  not_looked_up id k is inside has = thread_with-is id k is inside ∙ ap (λ (b : Bool). cond b (thread_on_slot slots k) None) has
+    -- and none if there is no such slot
+    pub not_looked_up : IfNone found (thread_with (length slots) id slots ≡ None)
+    not_looked_up = by found thread_with-is where
+      by : (o : Option ℕ) → thread_with (length slots) id slots ≡ option_and_then (thread_on_slot slots) o → IfNone o (thread_with (length slots) id slots ≡ None)
+      by None same = same
+      by (Some k) same = tt
 
   -- ---- what is on each slot
 

@@ -18,7 +18,7 @@ pub struct Family<'a> {
 
 impl<'a> Family<'a> {
     ghost use Rattle.std.specs.Prelude.{◌≡◌, ◌+◌, ◌<◌, ◌^◌};
-    ghost use Rattle.pct_model.specs.OtherProcesses.{family_among};
+    ghost use Rattle.pct_model.specs.OtherProcesses.{family_among, is_running_child};
     ghost use Rattle.pct_process.specs.FamilyViews.{other_processes};
 
     /// The other processes, as the one with this id sees them.
@@ -46,6 +46,16 @@ impl<'a> Family<'a> {
         Some(Child {
             ended: relative.ended,
         })
+    }
+
+    /// Whether there is a child with an id that has not ended.
+    pub fn is_running_child(&self, pid: u32) -> bool
+        ensures { result ≡ is_running_child pid (other_processes self.now) }
+    {
+        match self.child(pid) {
+            None => false,
+            Some(child) => child.ended.is_none(),
+        }
     }
 
     /// The id that a new process gets. There is none while MAX_PROCESSES processes were not reaped.

@@ -12,5 +12,5 @@ pub use exit_functions::ExitFunctions;
 pub use family::Family;
 pub use fork_registrations::ForkRegistrations;
 pub use numbers::Numbers;
-pub use process_state::ProcessState;
+pub use process_state::{ProcessState, is_last};
 pub use relatives::Relatives;

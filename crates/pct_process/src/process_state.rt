@@ -148,12 +148,7 @@ impl ProcessState {
         ensures some { IfSome result (λ slot. HoldsThread (thread_with (length self.now.slots) id self.now.slots) (thread_on_slot self.now.slots slot)) }
         ensures none { IfNone result (thread_with (length self.now.slots) id self.now.slots ≡ None) }
     {
-        let slot = self.threads.slot_of(id);
-        if self.threads.has_id(slot, id) {
-            Some(slot)
-        } else {
-            None
-        }
+        self.threads.slot_named(id)
     }
 
     /// Whether each thread but the one with an id has ended.
@@ -164,8 +159,8 @@ impl ProcessState {
     }
 }
 
-// Whether each thread of a table but the one with an id has ended.
-fn is_last(threads: &Threads, tid: u32) -> bool
+/// Whether each thread of a table but the one with an id has ended.
+pub fn is_last(threads: &Threads, tid: u32) -> bool
     ensures { result ≡ list_all (λ s. has_no_other tid s.here) threads.now }
 {
     for slot in 0..threads.slot_count() {

@@ -9,4 +9,4 @@ mod report;
 
 pub use event_fields::fields_of_event;
 pub use fields::Fields;
-pub use report::{write_report, write_run_report, write_verdict_line};
+pub use report::{write_report, write_verdict_line};

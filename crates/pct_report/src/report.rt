@@ -37,12 +37,9 @@ pub fn write_report<K: Sink>(engine: &Engine, sink: &mut K) -> Result<(), Failed
     )
 }
 
-/// Writes the report of a run: a title, the events in order, the verdict, and the schedule. Bytes are collected before
-/// they are written to the sink.
-///
-/// `Failed` means that the sink recorded one error, and that a prefix of the report was written. The call allocates no
-/// memory.
-pub fn write_run_report<K: Sink>(
+// Writes the report of a run: a title, the events in order, the verdict, and the schedule. Bytes are collected before
+// they are written to the sink.
+fn write_run_report<K: Sink>(
     script: &Script,
     config: Config,
     events: &[Event],

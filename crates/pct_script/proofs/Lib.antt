@@ -1,6 +1,5 @@
 pub mod FaultyWords
 pub mod Keywords
-pub mod Fitting
 pub mod SpelledLines
 pub mod PushCounts
 pub mod SectionSteps

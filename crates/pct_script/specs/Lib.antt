@@ -1,5 +1,4 @@
 pub mod Fault
-pub mod Fitting
 pub mod SpelledLines
 pub mod DeclaredNames
 pub mod PushCounts

@@ -83,9 +83,9 @@ fn detached(word: &[u8]) -> Option<Token>
     }
 }
 
-// Parses a word by its argument kind.
+/// Parses a word by its argument kind. The result is `None` if the word does not fit it.
 #[tactic(auto, unfolding(pct_model::specs::LineParsing::token_at))]
-fn token_at(argument_kind: ArgumentKind, word: &[u8]) -> Option<Token>
+pub(crate) fn token_at(argument_kind: ArgumentKind, word: &[u8]) -> Option<Token>
     ensures { result ≡ token_at argument_kind word.now }
 {
     match argument_kind {

@@ -7,7 +7,8 @@ ghost use Rattle.pct_model.specs.LineKinds.{is_generic, point_statement, line_ki
 ghost use Rattle.pct_model.specs.LineParsing.{words_in};
 ghost use Rattle.pct_model.specs.Spelling.{faulty_word, fault_at, fault_of_words, misspelled};
 
-use crate::argument_kind::{why_not, word_fits};
+use crate::argument_kind::why_not;
+use crate::arguments::token_at;
 use pct_cancel::point_of;
 use pct_model::{LineKind, ParseWhy, PointKind, PointWait, SymbolKind, line_kind_with};
 use pct_text::{are_allowed, count_words, next_word};
@@ -120,14 +121,14 @@ fn kind_by_length(word: &[u8]) -> Option<LineKind>
     None
 }
 
-// The kind of a line that begins with this word, by a search of all keywords and points.
-#[tactic(auto, unfolding(pct_model::specs::LineKinds::line_kind_of))]
+// The kind of a line that begins with this word, by a search of all points and keywords.
+#[tactic(auto, using(crate::proofs::Keywords::kind_of_point))]
 fn kind_among_all(word: &[u8]) -> Option<LineKind>
     ensures { result ≡ line_kind_of word.now }
 {
-    match line_kind_with(word) {
+    match point_kind(word) {
         Some(line_kind) => Some(line_kind),
-        None => point_kind(word),
+        None => line_kind_with(word),
     }
 }
 
@@ -149,7 +150,7 @@ fn faulty_word(line_kind: LineKind, words: usize, bytes: &[u8]) -> Option<ParseW
     let mut rest = bytes;
     while let Some((word, after)) = next_word(rest) {
         let argument_kind = line_kind.argument_kind(words, at)?;
-        if !word_fits(argument_kind, word) {
+        if token_at(argument_kind, word).is_none() {
             return Some(why_not(argument_kind, word));
         }
         at += 1;

@@ -1,10 +1,11 @@
 -- The table of the threads of a process: the list of its slots. A call names a slot by its index.
-use Rattle.std.specs.Prelude.{ℕ, ◌+◌, ◌*◌, Bool, false, not, List, length, map, Option, option_map, slice_get, slice_index_or, slice_set}
+use Rattle.std.specs.Prelude.{ℕ, ◌+◌, ◌*◌, Bool, false, not, if◌then◌else◌, List, length, map, Option, Some, None, option_map, slice_get, slice_index_or, slice_set}
 use Rattle.std.specs.Option.{option_map_or}
 use Rattle.pct_model.specs.declared.frame.Frame.{Frame}
+use Rattle.pct_model.specs.ThreadSlots.{slot_of}
 use Rattle.pct_threads.specs.declared.record.Thread.{Thread}
 use Rattle.pct_threads.specs.declared.record.Place.{Place}
-use Rattle.pct_threads.specs.Slots.{Held, Slot, unused, is_occupied, holds_thread, frames_of, place_of, is_reclaimable, after_end, after_detach, after_change, with_change, freed, created}
+use Rattle.pct_threads.specs.Slots.{Held, Slot, unused, is_occupied, has_id, holds_thread, frames_of, place_of, is_reclaimable, after_end, after_detach, after_change, with_change, freed, created}
 
 -- ---- what is on a slot
 
@@ -43,6 +44,10 @@ is_reclaimable_at slots index = holds_thread is_reclaimable (slot_at slots index
 -- the id of the next thread on a slot
 abbrev pub next_id_at : List Slot → ℕ → ℕ
 next_id_at slots index = 1 + index + length slots * (slot_at slots index).made
+
+-- the slot of the thread with an id, if the thread holds it
+abbrev pub slot_named : ℕ → List Slot → Option ℕ
+slot_named id slots = if has_id id (slot_at slots (slot_of (length slots) id)) then Some (slot_of (length slots) id) else None
 
 -- ---- changes
 

@@ -1,6 +1,7 @@
 //! The data of a thread in a table: its record, and its place.
 
 ghost use Rattle.std.specs.Prelude.{◌≡◌};
+ghost use Rattle.pct_model.specs.CondCalls.{is_waiting_on};
 ghost use Rattle.pct_threads.specs.Records.{new_record};
 
 use pct_cancel::Cancel;
@@ -48,6 +49,16 @@ impl Thread {
             pass: 0,
             kept: None,
             ended: false,
+        }
+    }
+
+    /// Whether the thread waits on the condition variable with this index.
+    pub fn is_waiting_on(&self, cond: u32) -> bool
+        ensures { result ≡ is_waiting_on cond self.now.status }
+    {
+        match self.status {
+            Status::Waiting(waited, _) => waited == cond,
+            _ => false,
         }
     }
 

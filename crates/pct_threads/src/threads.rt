@@ -52,7 +52,7 @@ impl Threads {
     ghost use Rattle.pct_threads.specs.declared.row.TheConstants.{MAX_DEPTH};
     ghost use Rattle.pct_threads.specs.FrameWords.{frame_word_of};
     ghost use Rattle.pct_threads.specs.Slots.{unused, has_id, frame_at, with_call, with_frame, with_call_alone, with_pc, with_local, without_frame, without_frames, with_frame_word, freed};
-    ghost use Rattle.pct_threads.specs.Tables.{slot_at, is_occupied_at, is_free_at, place_at, thread_at, frames_at, is_reclaimable_at, next_id_at, on_slot, on_held, with_created, with_end, with_detach, replica_of};
+    ghost use Rattle.pct_threads.specs.Tables.{slot_at, slot_named, is_occupied_at, is_free_at, place_at, thread_at, frames_at, is_reclaimable_at, next_id_at, on_slot, on_held, with_created, with_end, with_detach, replica_of};
     ghost use Rattle.pct_threads.specs.Lends.{LendsThread};
 
     /// A table of 1 to 64 slots, none of them occupied. `NoMemory` is returned if the table does not fit into memory.
@@ -106,6 +106,21 @@ impl Threads {
         ensures { result ≡ has_id id (slot_at self.now slot) }
     {
         self.row(slot).has_id(id)
+    }
+
+    /// The slot of the thread with this id. It is `None` exactly if no thread with the id holds its slot.
+    pub fn slot_named(&self, id: u32) -> Option<u32>
+        ensures value { result ≡ slot_named id self.now }
+        ensures occupied { IfSome result (λ slot. is_occupied_at self.now slot ≡ true) }
+        // This holds of every table.
+        ensures some { 1 ≤ length self.now }
+    {
+        let slot = self.slot_of(id);
+        if self.has_id(slot, id) {
+            Some(slot)
+        } else {
+            None
+        }
     }
 
     /// The first occupied slot whose thread has this id. It is `None` exactly if there is none.
@@ -233,15 +248,7 @@ impl Threads {
     }
 
     /// The newest frame of the thread. It is `None` exactly if the thread has no frame.
-    pub fn top_frame(&self, slot: u32) -> Option<Frame>
-        requires { is_occupied_at self.now slot ≡ true }
-        ensures { result ≡ slice_get (frames_at self.now slot) 0 }
-    {
-        self.row(slot).top_frame().copied()
-    }
-
-    /// The same, without a copy of the frame.
-    pub fn top_frame_ref(&self, slot: u32) -> Option<&Frame>
+    pub fn top_frame(&self, slot: u32) -> Option<&Frame>
         requires { is_occupied_at self.now slot ≡ true }
         ensures { option_map (λ frame. frame.now) result ≡ slice_get (frames_at self.now slot) 0 }
     {

@@ -80,17 +80,13 @@ module _ (places : List KeyPlace) (own : KeyValues) (n : ℕ) where
       ap key_place key.2 ∙ on p key.0 small key.1
 
   -- a number is among those of the keys that are left exactly if the key on its place is left and has it
-  pub left_among : AreOnPlaces places → list_any (nat_eq n) (left_keys places own) ≡ (is_left places own (key_place n) && nat_eq n (number_at places (key_place n)))
+  left_among : AreOnPlaces places → list_any (nat_eq n) (left_keys places own) ≡ (is_left places own (key_place n) && nat_eq n (number_at places (key_place n)))
   unfolding left_places
   left_among on = among_places (number_at places) (is_left places own) n (left_place on)
 
   -- then it is offered
   pub left_offered : AreOnPlaces places → offers (map (λ n. alt.Dtor n) (left_keys places own)) (alt.Dtor n) ≡ (is_left places own (key_place n) && nat_eq n (number_at places (key_place n)))
   left_offered on = any-map (same_choice (alt.Dtor n)) (λ n. alt.Dtor n) (left_keys places own) ∙ left_among on
-
-  -- its key can be taken
-  pub left_fits : AreOnPlaces places → list_any (nat_eq n) (left_keys places own) ≡ true → is_left places own (key_place n) ≡ true
-  left_fits on among = (and_parts (is_left places own (key_place n)) (nat_eq n (number_at places (key_place n))) (sym (left_among on) ∙ among)).0
 
   by_key : (o : Option Key) (in_pass value : Bool) → let left : Bool = in_pass && (option_map_or (λ key. is_some key.destructor) o false && value) in (left && nat_eq n (option_map_or (λ key. key.number) o 0)) ≡ (is_some (if_number n o) && left)
   by_key None true value = refl

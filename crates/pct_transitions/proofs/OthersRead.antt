@@ -1,25 +1,25 @@
 -- What is read of the table of threads is what a thread sees of the others.
 use Rattle.pct_names.proofs.Names.{◌*◌, ◌+◌, ◌++◌, ◌<◌, [], All, ap, arith, Bool, cases_lt, cond, drop, drop_all, drop_more, exit_value_of}
-use Rattle.pct_names.proofs.Names.{exit_value_with, false, false≢true, Family, filter, filter_passes, inl, inr, is_detached_thread}
-use Rattle.pct_names.proofs.Names.{is_joining, is_none, is_some, KeyValues, length, List, list_any, list_any-append, list_any_at, map}
-use Rattle.pct_names.proofs.Names.{nat_eq, no_live_thread, None, none-some, not, Option, option_and_then, option_map, option_map_or, Others}
-use Rattle.pct_names.proofs.Names.{range_with_len, refl, same_Some, slice_get-get_or, slice_get_past, slot_of, Some, suc, sym, take}
-use Rattle.pct_names.proofs.Names.{take_all, Thread, true, zero, ◌||◌, ℕ, ◌∙◌, ◌∷◌, ◌≡◌, ◌≤◌}
+use Rattle.pct_names.proofs.Names.{exit_value_with, false, false≢true, Family, filter, filter_passes, inl, inr, is_joining, is_none}
+use Rattle.pct_names.proofs.Names.{is_some, KeyValues, length, List, list_all, list_any, list_any-append, list_any_at, map, None, none-some}
+use Rattle.pct_names.proofs.Names.{not, Option, option_and_then, option_map, option_map_or, Others, range_with_len, refl, same_Some}
+use Rattle.pct_names.proofs.Names.{slice_get-get_or, slice_get_past, Some, suc, sym, take, take_all, Thread, true, unwrap_or, zero, ◌||◌, ℕ}
+use Rattle.pct_names.proofs.Names.{◌∙◌, ◌∷◌, ◌≡◌, ◌≤◌}
 use Rattle.std.proofs.Math.Bool.{or-false}
 use Rattle.pct_set.specs.Slots.{slots_where}
 use Rattle.pct_threads.specs.declared.record.Place.{Place}
 use Rattle.pct_threads.specs.declared.record.Thread.{Thread as Kept}
-use Rattle.pct_threads.specs.Slots.{Held, Slot, unused, is_occupied, has_id, place_of}
-use Rattle.pct_threads.specs.Tables.{slot_at, held_at, place_at, thread_at, is_free_at, next_id_at}
+use Rattle.pct_threads.specs.Slots.{Held, Slot, unused, is_occupied, place_of}
+use Rattle.pct_threads.specs.Tables.{slot_at, slot_named, held_at, place_at, thread_at, is_free_at, next_id_at}
 use Rattle.pct_threads.proofs.TableLemmas.{within-free}
 use Rattle.pct_keys.specs.Tables.{Table, row_at}
 use Rattle.pct_engine_laws.specs.Seen.{SeenSlot, threads_on}
 use Rattle.pct_engine_laws.specs.SeenSteps.{is_empty, new_id_on, new_ids_from, others_in}
-use Rattle.pct_engine_laws.proofs.ListFacts.{all_none}
-use Rattle.pct_process.specs.ThreadViews.{thread_of, threads_of, slot_view, with_specific}
-use Rattle.pct_process.specs.ProcessViews.{slots_of, with_rows}
-use Rattle.pct_process.proofs.ViewedSlots.{own, length-slots_of, thread_on_slot-is, looked_up, not_looked_up}
-use Rattle.pct_transitions.specs.OtherThreads.{any_on, is_other_running}
+use Rattle.pct_process.specs.ThreadViews.{thread_of, threads_of, slot_view, with_specific, has_no_other}
+use Rattle.pct_process.specs.ProcessViews.{slots_of, thread_on_slot, with_rows}
+use Rattle.pct_process.proofs.ViewedSlots.{own, length-slots_of, thread_on_slot-is, thread_with-is}
+use Rattle.pct_process.proofs.LastThread.{last_read}
+use Rattle.pct_transitions.specs.OtherThreads.{any_on}
 
 -- ---- scans
 
@@ -103,47 +103,46 @@ free_within threads = λ k d inside. within-free threads _ (filter_passes (is_fr
 
 -- ---- what a thread sees
 
--- of a thread that holds a slot
-module _ (own : Held → Thread) where
-  is_there : (id : ℕ) (o : Option Held) → option_map_or (λ h. nat_eq h.id id) o false ≡ true → false ≡ is_none (option_map own o)
-  is_there id None has = absurd (false≢true has)
-  is_there id (Some h) has = refl
+-- whether a thread is detached, if there is one: whether there is none, and whether there is one and it is detached
+pub none_named : (named : Option Thread) (detached : Option Bool) → detached ≡ option_map (λ t. t.detached) named → (none : Bool) → is_some detached ≡ not none → none ≡ is_none named
+none_named named detached is none some = by named none (sym (ap (λ (o : Option Bool). is_some o) is) ∙ some) where
+  by : (o : Option Thread) (b : Bool) → is_some (option_map (λ (t : Thread). t.detached) o) ≡ not b → b ≡ is_none o
+  by None true some = refl
+  by None false some = absurd (false≢true some)
+  by (Some t) true some = absurd (false≢true (sym some))
+  by (Some t) false some = refl
+
+pub detached_named : (named : Option Thread) (detached : Option Bool) → detached ≡ option_map (λ t. t.detached) named → unwrap_or detached false ≡ option_map_or (λ t. t.detached) named false
+detached_named named detached is = ap (λ (o : Option Bool). unwrap_or o false) is ∙ by named where
+  by : (o : Option Thread) → unwrap_or (option_map (λ (t : Thread). t.detached) o) false ≡ option_map_or (λ t. t.detached) o false
+  by None = refl
+  by (Some t) = refl
 
 module _ (keys : Table) (k : ℕ) where
-  detached_here : (o : Option Held) (place : Place) → option_map place_of o ≡ Some place → place.detached ≡ option_map_or (λ t. t.detached) (option_map (λ h. with_specific (row_at keys k) (thread_of h)) o) false
+  detached_here : (o : Option Held) (place : Place) → option_map place_of o ≡ Some place → Some place.detached ≡ option_map (λ t. t.detached) (option_map (λ h. with_specific (row_at keys k) (thread_of h)) o)
   detached_here None place is = absurd (none-some place is)
-  detached_here (Some h) place is = sym (ap (λ (p : Place). p.detached) (same_Some (place_of h) place is))
+  detached_here (Some h) place is = sym (ap (λ (p : Place). Some p.detached) (same_Some (place_of h) place is))
 
   ended_here : (o : Option Held) (kept : Kept) → option_map (λ h. h.thread) o ≡ Some kept → exit_value_of kept.status ≡ option_and_then (λ t. exit_value_of t.status) (option_map (λ h. with_specific (row_at keys k) (thread_of h)) o)
   ended_here None kept is = absurd (none-some kept is)
   ended_here (Some h) kept is = sym (ap (λ (r : Kept). exit_value_of r.status) (same_Some h.thread kept is))
 
 module _ (keys : Table) (threads : List Slot) (fit : length keys.rows ≡ length threads) (tid : ℕ) (family : Family) (others : Others) (sees : others ≡ others_in (length (slots_of keys.rows threads)) family (slots_of keys.rows threads) tid) where
-  -- the thread with an id is that on its slot
-  module _ (id k : ℕ) (is : k ≡ slot_of (length threads) id) (inside : k < length threads) where
-    there : has_id id (slot_at threads k) ≡ true → others.named id ≡ option_map (own keys threads fit k) (held_at threads k)
+  -- the thread with an id is that on the slot that the id names
+  module _ (id : ℕ) (some : 1 ≤ length threads) where
+    pub named_read : (found : Option ℕ) → found ≡ slot_named id threads → option_and_then (thread_on_slot (slots_of keys.rows threads)) found ≡ others.named id
     unfolding others_in
-    there has = ap (λ (o : Others). o.named id) sees ∙ (looked_up keys threads fit id k is inside has).same ∙ thread_on_slot-is keys threads fit k
+    named_read found is = sym (ap (λ (o : Others). o.named id) sees ∙ thread_with-is keys threads fit id found is some)
 
-    nowhere : has_id id (slot_at threads k) ≡ false → others.named id ≡ None
-    unfolding others_in
-    nowhere has = ap (λ (o : Others). o.named id) sees ∙ not_looked_up keys threads fit id k is inside has
+    module _ (k : ℕ) (at : Some k ≡ slot_named id threads) where
+      there : option_map (own keys threads fit k) (held_at threads k) ≡ others.named id
+      there = sym (thread_on_slot-is keys threads fit k) ∙ named_read (Some k) at
 
-    pub is_no_thread : (has : Bool) → has ≡ has_id id (slot_at threads k) → not has ≡ no_live_thread id others
-    is_no_thread true has = is_there (own keys threads fit k) id (held_at threads k) (sym has) ∙ ap (λ (o : Option Thread). is_none o) (sym (there (sym has)))
-    is_no_thread false has = ap (λ (o : Option Thread). is_none o) (sym (nowhere (sym has)))
+      pub is_detached : (place : Place) → place_at threads k ≡ Some place → Some place.detached ≡ option_map (λ t. t.detached) (others.named id)
+      is_detached place here = detached_here keys k (held_at threads k) place here ∙ ap (option_map (λ (t : Thread). t.detached)) there
 
-    pub is_detached : (place : Place) → has_id id (slot_at threads k) ≡ true → place_at threads k ≡ Some place → place.detached ≡ is_detached_thread id others
-    is_detached place has at = detached_here keys k (held_at threads k) place at ∙ ap (λ (o : Option Thread). option_map_or (λ t. t.detached) o false) (sym (there has))
-
-    pub none_detached : has_id id (slot_at threads k) ≡ false → false ≡ is_detached_thread id others
-    none_detached has = ap (λ (o : Option Thread). option_map_or (λ t. t.detached) o false) (sym (nowhere has))
-
-    pub has_ended : (kept : Kept) → has_id id (slot_at threads k) ≡ true → thread_at threads k ≡ Some kept → exit_value_of kept.status ≡ exit_value_with id others
-    has_ended kept has at = ended_here keys k (held_at threads k) kept at ∙ ap (option_and_then (λ t. exit_value_of t.status)) (sym (there has))
-
-    pub none_ended : has_id id (slot_at threads k) ≡ false → None ≡ exit_value_with id others
-    none_ended has = ap (option_and_then (λ t. exit_value_of t.status)) (sym (nowhere has))
+      pub has_ended : (kept : Kept) → thread_at threads k ≡ Some kept → exit_value_of kept.status ≡ exit_value_with id others
+      has_ended kept here = ended_here keys k (held_at threads k) kept here ∙ ap (option_and_then (λ t. exit_value_of t.status)) there
 
   -- a thread joins the one with an id
   pub joins_read : (id : ℕ) → list_any (λ s. any_on (λ t. is_joining id t.status) s.here) threads ≡ others.another_joins id
@@ -151,12 +150,9 @@ module _ (keys : Table) (threads : List Slot) (fit : length keys.rows ≡ length
   joins_read id = any_slot (λ t. is_joining id t.status) (λ own t. refl) keys.rows threads fit ∙ ap (λ (o : Others). o.another_joins id) (sym sees)
 
   -- each other thread has ended
-  pub last_read : (b : Bool) → b ≡ list_any (λ s. any_on (is_other_running tid) s.here) threads → not b ≡ others.is_last
+  pub is_last_read : list_all (λ s. has_no_other tid s.here) threads ≡ others.is_last
   unfolding others_in
-  last_read b is =
-      ap not (is ∙ any_slot (is_other_running tid) (λ own t. refl) keys.rows threads fit)
-      ∙ sym (all_none (λ t. t.ended || nat_eq t.id tid) (threads_on (slots_of keys.rows threads)))
-      ∙ ap (λ (o : Others). o.is_last) (sym sees)
+  is_last_read = last_read tid keys.rows threads fit ∙ ap (λ (o : Others). o.is_last) (sym sees)
 
   -- the ids of the next threads on the free slots
   pub new_ids_read : length threads ≤ 64 → map (next_id_at threads) (slots_where (is_free_at threads)) ≡ others.new_ids

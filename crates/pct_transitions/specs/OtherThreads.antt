@@ -1,5 +1,5 @@
 -- The threads of a table: tests of them, and their ids.
-use Rattle.std.specs.Prelude.{ℕ, Bool, false, not, ◌&&◌, ◌||◌, List, map, Option, nat_eq}
+use Rattle.std.specs.Prelude.{ℕ, Bool, false, not, ◌&&◌, List, map, Option, nat_eq}
 use Rattle.std.specs.Option.{option_map_or}
 use Rattle.pct_model.specs.declared.state.Status.{Status}
 use Rattle.pct_model.specs.declared.state.Status.TheVariants as status
@@ -11,10 +11,6 @@ use Rattle.pct_process.specs.ThreadViews.{thread_of}
 -- the thread on a slot passes a test; a free slot has no thread
 abbrev pub any_on : (Thread → Bool) → Option Held → Bool
 any_on test here = option_map_or (λ h. test (thread_of h)) here false
-
--- the thread has not ended, and has another id
-abbrev pub is_other_running : ℕ → Thread → Bool
-is_other_running tid t = not (t.ended || nat_eq t.id tid)
 
 -- the status is that of a thread that waits on condition variable c, with another mutex than m
 abbrev pub is_waiting_with_another : ℕ → ℕ → Status → Bool

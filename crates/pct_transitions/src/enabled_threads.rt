@@ -8,12 +8,11 @@ ghost use Rattle.pct_model.specs.Cancelability.{is_deliverable, is_asynchronous}
 ghost use Rattle.pct_model.specs.World.{Thread};
 ghost use Rattle.pct_model.specs.NextStatement.{NextStatement, next_of};
 ghost use Rattle.pct_model.specs.MutexCalls.{is_free_mutex};
-ghost use Rattle.pct_model.specs.OtherProcesses.{Family as OtherProcesses, is_running_child};
+ghost use Rattle.pct_model.specs.OtherProcesses.{Family as OtherProcesses};
 ghost use Rattle.pct_model.specs.OtherThreads.{Waiter, Others, is_ended_thread};
 ghost use Rattle.pct_model.specs.ChoiceTable.{choices_at, running_choices, unblocked_acts, go_if, act_if, is_enabled};
 ghost use Rattle.pct_model.specs.StopTable.{is_fork_kind};
 ghost use Rattle.pct_engine_laws.specs.SeenSteps.{others_in};
-ghost use Rattle.pct_process.specs.FamilyViews.{other_processes};
 ghost use Rattle.pct_process.specs.ProcessViews.{thread_on_slot};
 ghost use Rattle.pct_transitions.specs.Positions.{next_at};
 ghost use Rattle.pct_transitions.specs.ThreadRecords.{IsRecord, HasCancelability};
@@ -26,7 +25,7 @@ use crate::sem_calls::count_of;
 use crate::stop_table::is_fork_kind;
 use pct_cancel::Cancel;
 use pct_model::{Cause, FrameKind, Stmt};
-use pct_process::{Family, ProcessState};
+use pct_process::ProcessState;
 use pct_threads::Thread as ThreadRecord;
 
 // ---- what is read
@@ -46,7 +45,7 @@ pub fn next_on<'a>(program: &'a Program, process: &'a ProcessState, slot: u32) -
     requires { is_some (thread_on_slot process.now.slots slot) ≡ true }
     ensures { (t : Thread) → thread_on_slot process.now.slots slot ≡ Some t → next_at result ≡ next_of program.now.script t.frames }
 {
-    next_of(&program.script, process.threads.top_frame_ref(slot))
+    next_of(&program.script, process.threads.top_frame(slot))
 }
 
 /// Whether no thread of a process owns the mutex with this index.
@@ -70,18 +69,9 @@ pub fn count_in(process: &ProcessState, sem: u32) -> u32
 pub fn has_ended(process: &ProcessState, id: u32) -> bool
     ensures { (family : OtherProcesses) (tid : ℕ) → result ≡ is_ended_thread id (others_in (length process.now.slots) family process.now.slots tid) }
 {
-    let slot = process.threads.slot_of(id);
-    process.threads.has_id(slot, id) && exit_value_of(process.threads.read(slot).status).is_some()
-}
-
-/// Whether a process has a child with this id that has not ended, by what it sees of the other processes.
-#[inline(always)]
-pub fn has_running_child(family: Family, pid: u32) -> bool
-    ensures { result ≡ is_running_child pid (other_processes family.entry) }
-{
-    match family.child(pid) {
+    match process.threads.slot_named(id) {
+        Some(slot) => exit_value_of(process.threads.read(slot).status).is_some(),
         None => false,
-        Some(child) => child.ended.is_none(),
     }
 }
 

@@ -29,7 +29,7 @@ mod transitions;
 pub use cancel_calls::may_return;
 pub use context::Surroundings;
 pub use current::At;
-pub use enabled_threads::{count_in, has_ended, has_running_child, is_unowned, next_on, record_of};
+pub use enabled_threads::{count_in, has_ended, is_unowned, next_on, record_of};
 pub use process_steps::{choice_at, choice_by, choice_count, has_choice, takes};
 pub use program::Program;
 pub use transitions::no_change;

@@ -19,14 +19,12 @@ impl<'a> Context<'a> {
     }
 
     /// Whether the process has a child with the id that has not ended.
+    #[tactic(auto, using(crate::proofs::OthersRead::family_read))]
     #[inline(always)]
     pub(crate) fn is_running_child(&self, pid: u32) -> bool
         ensures { (others : Others) → SeesOthers self.now others → result ≡ is_running_child pid others.family }
     {
-        match self.child(pid) {
-            None => false,
-            Some(child) => child.ended.is_none(),
-        }
+        self.family.is_running_child(pid)
     }
 
     /// The id that a new process gets, if one can be made.

@@ -1,42 +1,29 @@
 //! What a thread sees of the other threads of its process, as the tables ask for it. Nothing is looked for before it is asked.
 
-ghost use Rattle.std.specs.Prelude.{◌≡◌, ◌<◌, true, All, length, map};
+ghost use Rattle.std.specs.Prelude.{◌≡◌, ◌<◌, true, All, length, map, option_map};
 ghost use Rattle.std.specs.List.{list_any};
-ghost use Rattle.pct_model.specs.OtherThreads.{Others, no_live_thread, is_detached_thread, exit_value_of, exit_value_with, waits_with_another_mutex, is_joining};
+ghost use Rattle.pct_model.specs.OtherThreads.{Others, exit_value_of, exit_value_with, waits_with_another_mutex, is_joining};
 ghost use Rattle.pct_model.specs.CondCalls.{is_waiting_on};
 ghost use Rattle.pct_set.specs.Slots.{slots_where};
 ghost use Rattle.pct_threads.specs.Tables.{held_at, is_occupied_at, next_id_at};
 ghost use Rattle.pct_transitions.specs.Contexts.{SeesOthers, IsWhole};
-ghost use Rattle.pct_transitions.specs.OtherThreads.{any_on, ids_on, is_other_running, is_waiting_with_another};
+ghost use Rattle.pct_transitions.specs.OtherThreads.{any_on, ids_on, is_waiting_with_another};
 
 use crate::context::Context;
 use pct_model::Status;
+use pct_process::is_last;
 use pct_set::SlotSet;
 use pct_threads::Threads;
 
 impl<'a> Context<'a> {
-    /// Whether no thread has the id, or the lifetime of the id is over.
+    /// Whether the thread with the id is detached. `None` if no thread has the id, or the lifetime of the id is over.
     #[inline(always)]
-    pub(crate) fn no_live_thread(&self, id: u32) -> bool
+    pub(crate) fn detached(&self, id: u32) -> Option<bool>
         requires { IsWhole self.now }
-        ensures { (others : Others) → SeesOthers self.now others → result ≡ no_live_thread id others }
+        ensures { (others : Others) → SeesOthers self.now others → result ≡ option_map (λ t. t.detached) (others.named id) }
     {
-        let slot = self.threads.slot_of(id);
-        !self.threads.has_id(slot, id)
-    }
-
-    /// Whether the thread with the id is detached.
-    #[inline(always)]
-    pub(crate) fn is_detached_thread(&self, id: u32) -> bool
-        requires { IsWhole self.now }
-        ensures { (others : Others) → SeesOthers self.now others → result ≡ is_detached_thread id others }
-    {
-        let slot = self.threads.slot_of(id);
-        if self.threads.has_id(slot, id) {
-            self.threads.place(slot).detached
-        } else {
-            false
-        }
+        let slot = self.threads.slot_named(id)?;
+        Some(self.threads.place(slot).detached)
     }
 
     /// The exit value of the thread with the id, once it has ended.
@@ -45,12 +32,8 @@ impl<'a> Context<'a> {
         requires { IsWhole self.now }
         ensures { (others : Others) → SeesOthers self.now others → result ≡ exit_value_with id others }
     {
-        let slot = self.threads.slot_of(id);
-        if self.threads.has_id(slot, id) {
-            exit_value_of(self.threads.read(slot).status)
-        } else {
-            None
-        }
+        let slot = self.threads.slot_named(id)?;
+        exit_value_of(self.threads.read(slot).status)
     }
 
     /// Whether a thread is suspended in pthread_join for this id.
@@ -99,12 +82,12 @@ impl<'a> Context<'a> {
         requires { IsWhole self.now }
         ensures { (others : Others) → SeesOthers self.now others → result ≡ others.is_last }
     {
-        !is_another_running(self.threads, self.position.id)
+        is_last(self.threads, self.position.id)
     }
 }
 
 /// The exit value of a thread with this status, once it has ended.
-pub fn exit_value_of(status: Status) -> Option<u32>
+pub(crate) fn exit_value_of(status: Status) -> Option<u32>
     ensures { result ≡ exit_value_of status }
 {
     match status {
@@ -154,22 +137,12 @@ fn waiting_slots(threads: &Threads, cond: u32) -> SlotSet
     let mut waiting = SlotSet::new();
     let mut rest = threads.occupied();
     while let Some(slot) = rest.nth(0) {
-        if is_waiting_on(cond, threads.read(slot).status) {
+        if threads.read(slot).is_waiting_on(cond) {
             waiting.insert(slot);
         }
         rest.remove(slot);
     }
     waiting
-}
-
-// The status is that of a thread that waits on the condition variable with this index.
-fn is_waiting_on(cond: u32, status: Status) -> bool
-    ensures { result ≡ is_waiting_on cond status }
-{
-    match status {
-        Status::Waiting(waited, _) => waited == cond,
-        _ => false,
-    }
 }
 
 // Whether a thread of a table waits on the condition variable with an index, with another mutex than the one with an index.
@@ -203,29 +176,5 @@ fn is_waiting_with_another(cond: u32, mutex: u32, status: Status) -> bool
     match status {
         Status::Waiting(waited, released) => waited == cond && released != mutex,
         _ => false,
-    }
-}
-
-// Whether a thread of a table has not ended and has another id than this.
-fn is_another_running(threads: &Threads, id: u32) -> bool
-    ensures { result ≡ list_any (λ s. any_on (is_other_running id) s.here) threads.now }
-{
-    for slot in 0..threads.slot_count() {
-        if is_other_on(threads, slot, id) {
-            return true;
-        }
-    }
-    false
-}
-
-// The thread on a slot has not ended, and has another id than this. A free slot has no thread.
-fn is_other_on(threads: &Threads, slot: u32, id: u32) -> bool
-    requires { slot < length threads.now }
-    ensures { result ≡ any_on (is_other_running id) (held_at threads.now slot) }
-{
-    if threads.is_occupied(slot) {
-        !(threads.read(slot).ended || threads.place(slot).id == id)
-    } else {
-        false
     }
 }

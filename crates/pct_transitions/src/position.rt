@@ -53,7 +53,7 @@ pub fn position_of<'a>(
     let place = threads.place(slot);
     Position {
         id: place.id,
-        next: next_of(&program.script, threads.top_frame_ref(slot)),
+        next: next_of(&program.script, threads.top_frame(slot)),
         depth: place.depth,
         frames: threads.frames(slot),
         thread: threads.read(slot),

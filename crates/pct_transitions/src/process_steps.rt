@@ -7,14 +7,13 @@ ghost use Rattle.pct_engine_laws.specs.Fitting.{Fits};
 ghost use Rattle.pct_engine_laws.specs.SeenSteps.{choices_in, is_ready_in};
 ghost use Rattle.pct_process.specs.FamilyViews.{other_processes};
 ghost use Rattle.pct_process.specs.ProcessViews.{thread_on_slot};
-ghost use Rattle.pct_transitions.specs.Numbers.{AreOnPlaces};
 ghost use Rattle.pct_transitions.specs.ProcessSteps.{with_data, NewNumbersFit, ForksHaveRoom, Takes};
 
 use crate::cancel_calls::may_return;
 use crate::choice_table::choices_at;
 use crate::context::{Context, Surroundings};
 use crate::enabled_threads::{
-    count_in, goes_or_acts, has_ended, has_running_child, reacquires_or_acts, record_of, runs_on,
+    count_in, goes_or_acts, has_ended, reacquires_or_acts, record_of, runs_on,
 };
 use crate::transition_table::transition_by;
 use pct_model::{Alt, Status, Transition};
@@ -38,7 +37,7 @@ pub fn has_choice(around: Surroundings, process: &ProcessState, slot: u32) -> bo
         Status::Joining(id) => goes_or_acts(has_ended(process, id), &thread.cancel),
         Status::InSem(sem) => goes_or_acts(count_in(process, sem) > 0, &thread.cancel),
         Status::InWaitPid(pid) => {
-            goes_or_acts(!has_running_child(around.family, pid), &thread.cancel)
+            goes_or_acts(!around.family.is_running_child(pid), &thread.cancel)
         }
         Status::Ending | Status::Forking(_) | Status::Exiting => true,
         Status::Ended(_) => false,
@@ -109,10 +108,7 @@ pub fn takes(
     requires room { ForksHaveRoom process.now.slots }
     ensures taken { (t : Thread) → thread_on_slot process.now.slots slot ≡ Some t → Takes around.entry.program.now.script around.entry.program.now.config (other_processes around.entry.family) process.now t choice result transition.new }
     ensures fits { (t : Thread) → thread_on_slot process.now.slots slot ≡ Some t → result ≡ true → Fits (length t.frames) (length t.handlers) t.pass transition.new.own }
-    // This holds of every process.
-    ensures places { AreOnPlaces process.now.shared.keys }
 {
-    process.keys.sound();
     let context = Context::new(around, process, slot);
     if !choices_at(&context).offers(context.threads, context.position.keys, choice) {
         return false;

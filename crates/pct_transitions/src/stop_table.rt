@@ -99,41 +99,46 @@ fn own_stop(context: &Context, at: &At) -> Option<Why>
 }
 
 // The stop of pthread_join for the thread with an id.
+#[tactic(auto, using(crate::proofs::OthersRead::none_named, crate::proofs::OthersRead::detached_named))]
 #[inline(always)]
 fn stop_of_join(context: &Context, id: u32) -> Option<Why>
     requires { IsWhole context.now }
     ensures { (others : Others) → SeesOthers context.now others
         → result ≡ first_stop ((no_live_thread id others, why.ThreadId) ∷ (nat_eq id context.now.position.id, why.JoinSelf) ∷ (is_detached_thread id others, why.NotJoinable) ∷ (others.another_joins id, why.JoinTwice) ∷ []) }
 {
+    let detached = context.detached(id);
     first_stop(&[
-        (context.no_live_thread(id), Why::ThreadId),
+        (detached.is_none(), Why::ThreadId),
         (id == context.position.id, Why::JoinSelf),
-        (context.is_detached_thread(id), Why::NotJoinable),
+        (detached.unwrap_or(false), Why::NotJoinable),
         (context.another_joins(id), Why::JoinTwice),
     ])
 }
 
 // The stop of pthread_detach of the thread with an id.
+#[tactic(auto, using(crate::proofs::OthersRead::none_named, crate::proofs::OthersRead::detached_named))]
 #[inline(always)]
 fn stop_of_detach(context: &Context, id: u32) -> Option<Why>
     requires { IsWhole context.now }
     ensures { (others : Others) → SeesOthers context.now others
         → result ≡ first_stop ((no_live_thread id others, why.ThreadId) ∷ (is_detached_thread id others, why.NotJoinable) ∷ (others.another_joins id, why.DetachJoined) ∷ []) }
 {
+    let detached = context.detached(id);
     first_stop(&[
-        (context.no_live_thread(id), Why::ThreadId),
-        (context.is_detached_thread(id), Why::NotJoinable),
+        (detached.is_none(), Why::ThreadId),
+        (detached.unwrap_or(false), Why::NotJoinable),
         (context.another_joins(id), Why::DetachJoined),
     ])
 }
 
 // The stop of a call that names the thread with an id.
+#[tactic(auto, using(crate::proofs::OthersRead::none_named))]
 #[inline(always)]
 fn stop_of_request(context: &Context, id: u32) -> Option<Why>
     requires { IsWhole context.now }
     ensures { (others : Others) → SeesOthers context.now others → result ≡ first_stop ((no_live_thread id others, why.ThreadId) ∷ []) }
 {
-    first_stop(&[(context.no_live_thread(id), Why::ThreadId)])
+    first_stop(&[(context.detached(id).is_none(), Why::ThreadId)])
 }
 
 // The stop of a call that names the key with a number: it was not made, or was deleted.

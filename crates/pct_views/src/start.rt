@@ -52,7 +52,7 @@ pub(crate) fn start_on(state: &ProcessState, slot: u32) -> StepStart
 {
     StepStart {
         status: record_of(state, slot).status,
-        position: position_in(state.threads.top_frame_ref(slot)),
+        position: position_in(state.threads.top_frame(slot)),
     }
 }
 

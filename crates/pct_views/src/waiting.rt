@@ -14,8 +14,7 @@ ghost use Rattle.pct_view_laws.specs.Waits.{mutex_wait, wait_at, wait_by};
 use pct_model::{Status, Stmt};
 use pct_process::ProcessState;
 use pct_transitions::{
-    At, Surroundings, count_in, has_choice, has_ended, has_running_child, is_unowned, may_return,
-    next_on, record_of,
+    At, Surroundings, count_in, has_choice, has_ended, is_unowned, may_return, next_on, record_of,
 };
 use pct_view_laws::Wait;
 
@@ -38,7 +37,7 @@ pub(crate) fn wait_on(around: Surroundings, state: &ProcessState, slot: u32) -> 
         Status::Joining(id) => wait_unless(has_ended(state, id), Wait::Thread(id)),
         Status::InSem(sem) => wait_unless(count_in(state, sem) > 0, Wait::Semaphore(sem)),
         Status::InWaitPid(pid) => {
-            wait_unless(!has_running_child(around.family, pid), Wait::Process(pid))
+            wait_unless(!around.family.is_running_child(pid), Wait::Process(pid))
         }
         Status::Waiting(cond, _) => Some(Wait::Condition(cond)),
         Status::Reacquire(_, mutex, _) => mutex_wait(state, mutex),

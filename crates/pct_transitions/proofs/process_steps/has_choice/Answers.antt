@@ -74,7 +74,7 @@ unfolding choices_at others_in
 returns-in-InWaitPid c = λ t at.
     let is = c.record_of-thread.ensures t at in
     c.goes_or_acts-in-InWaitPid.ensures t is.cancel_is
-    ∙ goes t _ _ (ap not c.has_running_child.ensures)
+    ∙ goes t _ _ (ap not c.is_running_child.ensures)
     ∙ by_status c.args.around.program.now.script c.args.process.now (other_processes c.args.around.family) t c.record_of-thread.result.now.status _ c.in-InWaitPid.is is.status_is
 
 pub returns-in-Ending : goal.returns-in-Ending

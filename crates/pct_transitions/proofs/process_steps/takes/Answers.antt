@@ -1,11 +1,8 @@
-use Rattle.pct_names.proofs.Names.{acts_or, Alt, ap, body_at, choices_at, false≢true, length, List, next_of, offers, subst, sym}
-use Rattle.pct_names.proofs.Names.{transition_at, ◌∙◌}
+use Rattle.pct_names.proofs.Names.{acts_or, Alt, ap, body_at, choices_at, false≢true, length, List, next_of, offers, sym, transition_at}
+use Rattle.pct_names.proofs.Names.{◌∙◌}
 use Rattle.pct_engine_laws.specs.SeenSteps.{others_in}
 use Rattle.pct_process.specs.FamilyViews.{other_processes}
-use Rattle.pct_process.specs.ProcessViews.{ProcessData}
-use Rattle.pct_transitions.specs.Numbers.{AreOnPlaces}
 use Rattle.pct_transitions.specs.Programs.{ProgramValue}
-use Rattle.pct_transitions.proofs.KeyChoices.{on_places}
 use Rattle.pct_transitions.proofs.process_steps.takes.Goals as goal
 
 pub returns-then-not-offers-clause-taken : goal.returns-then-not-offers-clause-taken
@@ -32,9 +29,3 @@ returns-clause-taken c = λ t at.
 
 pub returns-clause-fits : goal.returns-clause-fits
 returns-clause-fits c = λ t at taken. (c.transition_by.ensures.fits _ t _ (c.new-context.ensures.context t at) (c.requires.room c.args.slot t at)).own
-
-pub returns-then-not-offers-clause-places : goal.returns-then-not-offers-clause-places
-returns-then-not-offers-clause-places c = subst (λ (d : ProcessData). AreOnPlaces d.shared.keys) c.process.view_is (on_places c.process.inside.keys c.sound.ensures)
-
-pub returns-clause-places : goal.returns-clause-places
-returns-clause-places c = subst (λ (d : ProcessData). AreOnPlaces d.shared.keys) c.process.view_is (on_places c.process.inside.keys c.sound.ensures)

@@ -71,8 +71,8 @@ unfolding wait_by wait_in others_in
 returns-in-InWaitPid c = λ t at.
     let w : Wait = wait.Process c.in-InWaitPid.pid in
     c.wait_unless-in-InWaitPid.ensures
-    ∙ over_unless c.has_running_child.result w
-    ∙ ap (λ (running : Bool). cond running (Some w) None) c.has_running_child.ensures
+    ∙ over_unless c.is_running_child.result w
+    ∙ ap (λ (running : Bool). cond running (Some w) None) c.is_running_child.ensures
     ∙ by_status c.args.around.program.now.script c.args.state.now (other_processes c.args.around.family) t c.record_of.result.now.status _ c.in-InWaitPid.is (c.record_of.ensures t at).status_is
 
 pub returns-in-Waiting : goal.returns-in-Waiting

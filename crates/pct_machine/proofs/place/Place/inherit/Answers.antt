@@ -9,5 +9,5 @@ returns c =
     let parent = c.parent.inside in
     let on : AreOnSlots parent.state.slots = subst (λ (p : SeenProcess). AreOnSlots p.slots) (sym c.parent.view_is) c.requires.on_slots in
     let inherited = c.inherit.ensures c.args.tid (one_slot parent.state.slots on c.args.tid c.in-Some.slot c.in-Some.ensures.some) in
-    (λ i. record { pid = c.args.pid; parent = parent.entry.pid; ended = None; slots = (inherited i).slots; shared = (inherited i).shared })
+    (λ i. record { pid = c.args.pid; parent = parent.relative.pid; ended = None; slots = (inherited i).slots; shared = (inherited i).shared })
     ∙ ap (child_seen c.args.tid c.args.pid) c.parent.view_is

@@ -1,9 +1,15 @@
-use Rattle.pct_names.proofs.Names.{sym, ◌∙◌}
-use Rattle.pct_transitions.proofs.OthersRead.{has_ended, none_ended}
+use Rattle.pct_names.proofs.Names.{ap, exit_value_of, None, option_and_then, Thread, ◌∙◌}
+use Rattle.pct_transitions.proofs.OthersRead.{has_ended, named_read}
 use Rattle.pct_transitions.proofs.context.Context.exit_value_with.Goals as goal
 
-pub returns-then-has_id : goal.returns-then-has_id
-returns-then-has_id c = λ others sees. c.exit_value_of.ensures ∙ has_ended c.args.self.now.position.keys.now c.args.self.now.threads.now c.requires.rows c.args.self.now.position.id _ others sees c.args.id c.slot_of-slot.result c.slot_of-slot.ensures.value c.slot_of-slot.ensures.within c.read.result.now (sym c.has_id.ensures ∙ c.if-has_id.true) c.read.ensures
+pub returns-in_err-slot : goal.returns-in_err-slot
+returns-in_err-slot c = λ others sees.
+    let self = c.args.self.now in
+    c.from_residual.ensures
+    ∙ ap (option_and_then (λ (t : Thread). exit_value_of t.status)) (named_read self.position.keys.now self.threads.now c.requires.rows self.position.id _ others sees c.args.id c.in_err-slot.ensures.some None c.in_err-slot.ensures.value)
 
-pub returns-else-has_id : goal.returns-else-has_id
-returns-else-has_id c = λ others sees. none_ended c.args.self.now.position.keys.now c.args.self.now.threads.now c.requires.rows c.args.self.now.position.id _ others sees c.args.id c.slot_of-slot.result c.slot_of-slot.ensures.value c.slot_of-slot.ensures.within (sym c.has_id.ensures ∙ c.if-has_id.false)
+pub returns : goal.returns
+returns c = λ others sees.
+    let self = c.args.self.now in
+    c.exit_value_of.ensures
+    ∙ has_ended self.position.keys.now self.threads.now c.requires.rows self.position.id _ others sees c.args.id c.in_ok-slot.ensures.some c.in_ok-slot.slot c.in_ok-slot.ensures.value c.read.result.now c.read.ensures

@@ -1,7 +1,7 @@
 use Rattle.pct_names.proofs.Names.{◌<◌, get_or_read, length}
 use Rattle.pct_keys.specs.Tables.{no_row}
 use Rattle.pct_keys.proofs.SoundTables.{IsSound-row, FitsRow-with_pass}
-use Rattle.pct_keys.proofs.keys.Keys.pass_begin.Goals as goal
+use Rattle.pct_keys.proofs.keys.Keys.begin_pass.Goals as goal
 
 pub invariant_of-self : goal.invariant_of-self
 invariant_of-self c =
