@@ -185,8 +185,7 @@ goes_on_once script seed given code other text told a b =
     let illegal : Option ℕ = first_illegal script given.0 given.1 in
     let same : a.schedule ≡ b.schedule = continuation_is_one (draws (stream_of seed 1)) 1 script given.0 (followed illegal given.1) a.schedule b.schedule a.continued b.continued in
     let end : a.after ≡ b.after = same_Some a.after b.after (sym a.is_run ∙ ap (run script given.0) same ∙ b.is_run) in
-    let report_is : a.told ≡ b.told = same_Some a.told b.told (sym a.told_is ∙ ap (report script given.0) same ∙ b.told_is) in
-    (
+    let report_is : a.told ≡ b.told = same_Some a.told b.told (sym a.told_is ∙ ap (report script given.0) same ∙ b.told_is) in (
       a.code_is
           ∙ ap (λ (r : Run). code_by illegal (code_of_verdict (verdict_of script given.0 r.world (length a.schedule)))) end
           ∙ ap (λ (xs : List Entry). code_by illegal (code_of_verdict (verdict_of script given.0 b.after.world (length xs)))) same
