@@ -88,7 +88,7 @@ returns-in-Ending c = λ t at.
       | inl ending ↦
           sym (ending_enabled (body_at script t.frames) d.shared t (others_in (length d.slots) family d.slots t.id) t.handlers)
           ∙ by_status script d family t c.record_of-thread.result.now.status _ ending status
-      | inr (inl (phase, index, count, pid, forking)) ↦ by_status script d family t c.record_of-thread.result.now.status _ forking status
+      | inr (inl (fork, forking)) ↦ by_status script d family t c.record_of-thread.result.now.status _ forking status
       | inr (inr exiting) ↦ by_status script d family t c.record_of-thread.result.now.status _ exiting status
     ]
 
