@@ -97,7 +97,7 @@ returns-in-Ending c = λ t at.
     let status = (c.record_of.ensures t at).status_is in
     elim c.in-Ending.is [
       | inl ending ↦ by_status script d family t c.record_of.result.now.status _ ending status
-      | inr (inl (phase, index, count, pid, forking)) ↦ by_status script d family t c.record_of.result.now.status _ forking status
+      | inr (inl (fork, forking)) ↦ by_status script d family t c.record_of.result.now.status _ forking status
       | inr (inr (inl exiting)) ↦ by_status script d family t c.record_of.result.now.status _ exiting status
       | inr (inr (inr (value, ended))) ↦ by_status script d family t c.record_of.result.now.status _ ended status
     ]
