@@ -80,6 +80,6 @@ status_phrases script (status.InWaitPid pid) = in_call line_kind.WaitPid (decima
 status_phrases script (status.Waiting c m) = in_call line_kind.CondWait (cond_name script c ∷ mutex_name script m ∷ []) ∷ []
 status_phrases script (status.Reacquire c m why) = in_call line_kind.CondWait (cond_name script c ∷ mutex_name script m ∷ []) ∷ cause_words why ∷ []
 status_phrases script status.Ending = (keyword_text keyword.Ending ∷ []) ∷ []
-status_phrases script (status.Forking at) = in_call line_kind.Fork [] ∷ phase_words at ∷ []
+status_phrases script (status.Forking at) = in_call line_kind.Fork [] ∷ phase_words at.phase ∷ []
 status_phrases script status.Exiting = (codes "exiting" ∷ []) ∷ []
 status_phrases script (status.Ended v) = (keyword_text keyword.Ended ∷ decimal v ∷ []) ∷ []
