@@ -1,7 +1,7 @@
 -- The law of statements: a running thread makes the events of its next statement, with the values of the operands, unless it acts upon a
 -- request or its statement is a stop. One table has the events of each statement of the script language, and of each call. A call that
--- suspends the thread does so for what the operands name, and the thread leaves it only by the events of a return or of a request, which name
--- what it was suspended for.
+-- suspends the thread does so for what the operands name, and the thread leaves it only by the events of a return or of a request, which
+-- name what it was suspended for.
 --
 -- It leaves open when a thread acts upon a request (CancelLaw.antt) and which statement is a stop; which of the threads that wait a signal
 -- unblocks, and which of the numbers that are free a new thread or a new key gets; whether waitpid finds a child; which value a join and
@@ -221,9 +221,9 @@ is_of_end (what.EndedWith v) = true
 is_of_end (what.ExitBegun v) = true
 is_of_end _ = false
 
--- the events are those of a step of a thread with this status. One that is suspended in a call returns from it, or acts upon a request there,
--- and its events name what it was suspended for: the thread that was joined, the semaphore, the process that was reaped, the generic point,
--- the condition variable and the mutex of the wait. Any other that does not run makes a stage of a fork, of its end, or of an exit
+-- the events are those of a step of a thread with this status. One that is suspended in a call returns from it, or acts upon a request
+-- there, and its events name what it was suspended for: the thread that was joined, the semaphore, the process that was reaped, the generic
+-- point, the condition variable and the mutex of the wait. Any other that does not run makes a stage of a fork, of its end, or of an exit
 abbrev pub goes_on_by : Status → List What → Bool
 -- the events of a running thread are in the table of statements
 goes_on_by status.Running events = true

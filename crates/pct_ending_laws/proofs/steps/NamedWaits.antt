@@ -1,18 +1,19 @@
 -- A call suspends its thread for what the operands of the statement name; and a thread that does not run goes on by the events of its call
 -- alone, which name what it was suspended for, or by those of a stage of its fork, its end or its exit.
 use Rattle.pct_names.proofs.Names.{◌&&◌, [], and_from, body_at, Bool, Cause, cond, cond_wait_point, Config, EAGAIN, ECHILD, Entry}
-use Rattle.pct_names.proofs.Names.{false, has_left_wait, is_live_thread, List, list_any, moved, named_after, nat_eq, next_of, NextStatement, not}
-use Rattle.pct_names.proofs.Names.{Others, others_of, own_after, Process, refl, Run, run, Script, SharedState, Some, Status, Stmt, subst}
-use Rattle.pct_names.proofs.Names.{sym, Thread, thread_at, Transition, transition_by, true, value_of, What, ◌||◌, ℕ, ◌∷◌, ◌≡◌}
+use Rattle.pct_names.proofs.Names.{false, has_left_wait, is_live_thread, List, list_any, moved, named_after, nat_eq, next_of}
+use Rattle.pct_names.proofs.Names.{NextStatement, not, Others, others_of, own_after, Process, refl, Run, run, Script, SharedState}
+use Rattle.pct_names.proofs.Names.{Some, Status, Stmt, subst, sym, Thread, thread_at, Transition, transition_by, true, value_of, What}
+use Rattle.pct_names.proofs.Names.{◌||◌, ℕ, ◌∷◌, ◌≡◌}
 use Rattle.std.proofs.Common.{eq-eqb}
 use Rattle.std.proofs.lemmas.Bool.{true≢false}
 use Rattle.pct_model.specs.declared.event.What.TheVariants as what
 use Rattle.pct_model.specs.declared.state.Cause.TheVariants as cause
 use Rattle.pct_model.specs.declared.state.Status.TheVariants as status
 use Rattle.pct_laws.specs.StatementLaw.{is_call, is_suspended_at, suspends_by_call, goes_on_by}
-use Rattle.pct_transition_cases.proofs.TransitionCases.{TransitionCase, rests, join_begun, join_ended, point_begun, point_passed, wait_begun}
-use Rattle.pct_transition_cases.proofs.TransitionCases.{wait_ended, canceled_in_wait, canceled_after_wait, signal_handed_on, ended_in_wait}
-use Rattle.pct_transition_cases.proofs.TransitionCases.{sem_wait_begun, sem_taken, waitpid_begun, child_reaped, child_lost}
+use Rattle.pct_transition_cases.proofs.TransitionCases.{TransitionCase, rests, join_begun, join_ended, point_begun, point_passed}
+use Rattle.pct_transition_cases.proofs.TransitionCases.{wait_begun, wait_ended, canceled_in_wait, canceled_after_wait, signal_handed_on}
+use Rattle.pct_transition_cases.proofs.TransitionCases.{ended_in_wait, sem_wait_begun, sem_taken, waitpid_begun, child_reaped, child_lost}
 use Rattle.pct_transition_cases.proofs.TransitionCases.{fork_handler_called, process_not_forked}
 use Rattle.pct_thread_invariants.proofs.lift.EveryProcess.{moves_of_run}
 use Rattle.pct_thread_invariants.proofs.lift.HandlerEvents.{of_each_phase}
