@@ -11,7 +11,7 @@ use Rattle.pct_laws.specs.ForkLaw.{KeepsFork}
 use Rattle.pct_laws.specs.Kept.{IsPlainFunction, IsSuspendedInJoin}
 use Rattle.pct_laws.specs.CondLaw.{owners_allow, waits_allow, hand_ons_allow}
 use Rattle.pct_laws.specs.ResultLaw.{KeepsAnswer, StoresResults}
-use Rattle.pct_laws.specs.StatementLaw.{says_statement, suspends_by_call, each_names_its_wait}
+use Rattle.pct_laws.specs.StatementLaw.{says_statement, suspends_by_call, goes_on_by}
 use Rattle.pct_laws.specs.ValueLaw.{sets_its_value, KeepsThreads}
 use Rattle.pct_thread_invariants.proofs.lift.EachAllowed.{each_both}
 use Rattle.pct_ending_laws.specs.EndingLaws.{RunsKeepLaws, StatesAreKept}
@@ -55,7 +55,7 @@ use Rattle.pct_ending_laws.proofs.steps.KeptKeys.{keeps_keys_of_run}
 use Rattle.pct_ending_laws.proofs.steps.KeptValues.{keeps_values_of_run}
 use Rattle.pct_ending_laws.proofs.steps.MadeFrames.{says_calls_of_run}
 use Rattle.pct_thread_invariants.proofs.lift.MovedThreads.{each_step}
-use Rattle.pct_ending_laws.proofs.steps.NamedWaits.{suspends_of_run, names_of_run}
+use Rattle.pct_ending_laws.proofs.steps.NamedWaits.{suspends_of_run, continues_of_run}
 use Rattle.pct_ending_laws.proofs.StepsOfRuns.{steps_of_run}
 use Rattle.pct_ending_laws.proofs.steps.SaidStatements.{says_statements_of_run}
 use Rattle.pct_wake_laws.proofs.SharedChanges.{shared_law}
@@ -108,7 +108,7 @@ every_run_keeps_laws script config entries r is = record {
   statements = record {
     said = each_step script config (λ s. says_statement config.slots script s ≡ true) (says_statements_of_run script config) entries;
     suspended = each_step script config (λ s. suspends_by_call script s ≡ true) (suspends_of_run script config) entries;
-    named = each_step script config (λ s. each_names_its_wait s ≡ true) (names_of_run script config) entries;
+    continued = each_step script config (λ s. goes_on_by s.before.status s.events ≡ true) (continues_of_run script config) entries;
   };
   results = record {
     results = each_step script config (StoresResults script) (results_of_run script config) entries;

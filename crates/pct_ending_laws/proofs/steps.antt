@@ -6,4 +6,5 @@ pub mod KeptKeys
 pub mod EndStages
 pub mod KeptValues
 pub mod SaidStatements
+pub mod MadeStages
 pub mod NamedWaits

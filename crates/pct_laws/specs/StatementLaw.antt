@@ -1,6 +1,7 @@
 -- The law of statements: a running thread makes the events of its next statement, with the values of the operands, unless it acts upon a
 -- request or its statement is a stop. One table has the events of each statement of the script language, and of each call. A call that
--- suspends the thread does so for what the operands name, and the events by which it leaves the call name what it was suspended for.
+-- suspends the thread does so for what the operands name, and the thread leaves it only by the events of a return or of a request, which
+-- name what it was suspended for.
 --
 -- It leaves open when a thread acts upon a request (CancelLaw.antt) and which statement is a stop; which of the threads that wait a signal
 -- unblocks, and which of the numbers that are free a new thread or a new key gets; whether waitpid finds a child; which value a join and
@@ -199,36 +200,64 @@ is_suspended_at globals _ _ = false
 abbrev pub suspends_by_call : Script → ThreadStep → Bool
 suspends_by_call script s = not (list_any is_call s.events) || is_suspended_at s.process.shared.globals (next_of script s.before.frames) s.after.status
 
--- ---- returns from these calls
+-- ---- the events of a thread that does not run
 
--- the thread is in a wait on condition variable c, and was not canceled in it
-abbrev pub is_in_wait_on : ℕ → Status → Bool
-is_in_wait_on c (status.Waiting cond m) = nat_eq cond c
-is_in_wait_on c (status.Reacquire cond m cause.Canceled) = false
-is_in_wait_on c (status.Reacquire cond m why) = nat_eq cond c
-is_in_wait_on c _ = false
+-- the event is one of fork: a handler is called, a process is made, or none can be made (XSH pthread_atfork, fork)
+abbrev pub is_of_fork : What → Bool
+is_of_fork (what.PrepareRun f) = true
+is_of_fork (what.ParentRun f) = true
+is_of_fork (what.ChildRun f) = true
+is_of_fork (what.Forked pid) = true
+is_of_fork (what.Answer caller.Fork n) = nat_eq n EAGAIN
+is_of_fork _ = false
 
--- an event of a thread with this status, which may be suspended, names what the thread was suspended for: the thread that was joined, the
--- semaphore, the process that was reaped, the generic point, the mutex and the condition variable of the wait. A `done` and an `acquire` of a
--- thread that is not suspended is that of its statement
-abbrev pub names_its_wait : Status → What → Bool
-names_its_wait (status.Joining target) (what.Joined id v) = nat_eq id target
-names_its_wait s (what.Joined id v) = false
-names_its_wait (status.InSem n) (what.Taken sem) = nat_eq sem n
-names_its_wait s (what.Taken sem) = false
-names_its_wait (status.InWaitPid child) (what.Reaped pid n) = nat_eq pid child
-names_its_wait s (what.Reaped pid n) = false
-names_its_wait (status.AtPoint n) (what.Done index) = nat_eq index n
-names_its_wait (status.Reacquire c m why) (what.Acquired mutex) = nat_eq mutex m
-names_its_wait (status.Reacquire c m cause.Canceled) (what.EndingInWait cond mutex) = nat_eq cond c && nat_eq mutex m
-names_its_wait s (what.EndingInWait cond mutex) = false
-names_its_wait s (what.WaitCanceled c) = is_in_wait_on c s
-names_its_wait s (what.HandedOn c id) = is_in_wait_on c s
-names_its_wait s _ = true
+-- the event is one of the end of a thread; by that of the last thread of a process exit begins (XSH 2.9.5.3, pthread_exit)
+abbrev pub is_of_end : What → Bool
+is_of_end (what.HandlerRun f a) = true
+is_of_end (what.PassBegun n) = true
+is_of_end (what.DtorRun pass key f v) = true
+is_of_end (what.Leftover n) = true
+is_of_end (what.EndedWith v) = true
+is_of_end (what.ExitBegun v) = true
+is_of_end _ = false
 
--- so does each event of a step
-abbrev pub each_names_its_wait : ThreadStep → Bool
-each_names_its_wait s = list_all (names_its_wait s.before.status) s.events
+-- the events are those of a step of a thread with this status. One that is suspended in a call returns from it, or acts upon a request
+-- there, and its events name what it was suspended for: the thread that was joined, the semaphore, the process that was reaped, the generic
+-- point, the condition variable and the mutex of the wait. Any other that does not run makes a stage of a fork, of its end, or of an exit
+abbrev pub goes_on_by : Status → List What → Bool
+-- the events of a running thread are in the table of statements
+goes_on_by status.Running events = true
+-- XSH 2.9.5.2
+goes_on_by (status.AtPoint n) (what.Done index ∷ []) = nat_eq index n
+goes_on_by (status.AtPoint n) (what.EndingCanceled ∷ []) = true
+-- XSH pthread_join
+goes_on_by (status.Joining target) (what.Joined id v ∷ []) = nat_eq id target
+goes_on_by (status.Joining target) (what.EndingCanceled ∷ []) = true
+-- XSH sem_wait
+goes_on_by (status.InSem n) (what.Taken sem ∷ []) = nat_eq sem n
+goes_on_by (status.InSem n) (what.EndingCanceled ∷ []) = true
+-- XSH waitpid: ECHILD if another thread has reaped the child meanwhile
+goes_on_by (status.InWaitPid child) (what.Reaped pid n ∷ []) = nat_eq pid child
+goes_on_by (status.InWaitPid child) (what.Answer caller.WaitPid n ∷ []) = nat_eq n ECHILD
+goes_on_by (status.InWaitPid child) (what.EndingCanceled ∷ []) = true
+-- XSH pthread_cond_wait: a thread owns the mutex again as it returns, and also as it begins to end, after it acted upon a request in the
+-- wait; if a signal had unblocked it, it may hand the signal on then
+goes_on_by (status.Waiting c m) (what.WaitCanceled cond ∷ []) = nat_eq cond c
+goes_on_by (status.Reacquire c m cause.Canceled) (what.Acquired mutex ∷ what.EndingInWait cond owned ∷ []) = nat_eq mutex m && nat_eq cond c && nat_eq owned m
+goes_on_by (status.Reacquire c m cause.Canceled) events = false
+goes_on_by (status.Reacquire c m cause.Signalled) (what.WaitCanceled cond ∷ what.HandedOn signalled id ∷ []) = nat_eq cond c && nat_eq signalled c
+goes_on_by (status.Reacquire c m why) (what.WaitCanceled cond ∷ []) = nat_eq cond c
+goes_on_by (status.Reacquire c m why) (what.Acquired mutex ∷ what.Done index ∷ []) = nat_eq mutex m && nat_eq index cond_wait_point
+-- XSH fork: its return has no event
+goes_on_by (status.Forking at) [] = true
+goes_on_by (status.Forking at) (w ∷ []) = is_of_fork w
+-- XSH 2.9.5.3, pthread_exit
+goes_on_by status.Ending events = not (is_empty events) && list_all is_of_end events
+-- XSH exit
+goes_on_by status.Exiting (what.ExitRun f ∷ []) = true
+goes_on_by status.Exiting (what.ProcessEnded n ∷ []) = true
+-- a thread that has ended makes no step
+goes_on_by _ events = false
 
 -- ---- the law
 
@@ -236,4 +265,4 @@ each_names_its_wait s = list_all (names_its_wait s.before.status) s.events
 pub record StatementLaw (script : Script) (config : Config) (entries : List Entry) : Type 0 where
   pub said : EachStep script config entries (λ s. says_statement config.slots script s ≡ true)
   pub suspended : EachStep script config entries (λ s. suspends_by_call script s ≡ true)
-  pub named : EachStep script config entries (λ s. each_names_its_wait s ≡ true)
+  pub continued : EachStep script config entries (λ s. goes_on_by s.before.status s.events ≡ true)

@@ -1,5 +1,5 @@
 -- The law of statements: statements with events that the law accepts, and events that it refuses, each with the name of the sentence that it
--- breaks; calls with what they suspend their thread for; and made steps.
+-- breaks; calls with what they suspend their thread for, and the events by which it goes on; and made steps.
 use Rattle.pct_names.proofs.Names.{[], Bool, codes, cond_wait_point, false, first_process, Frame, FrameKind, is_static, IsTrue}
 use Rattle.pct_names.proofs.Names.{join_point, List, MAX_FORK_HANDLERS, MAX_KEYS, new_frame, new_shared, new_thread, None, Operand}
 use Rattle.pct_names.proofs.Names.{Process, refl, replicate, Script, sem_wait_point, SharedState, Some, StatementIn, Status, Stmt}
@@ -8,12 +8,13 @@ use Rattle.pct_model.specs.declared.event.Caller.TheVariants as caller
 use Rattle.pct_model.specs.declared.event.What.TheVariants as what
 use Rattle.pct_model.specs.declared.state.Cause.TheVariants as cause
 use Rattle.pct_model.specs.declared.state.FrameKind.TheVariants as kind
+use Rattle.pct_model.specs.declared.state.Phase.TheVariants as phase
 use Rattle.pct_model.specs.declared.state.Status.TheVariants as status
 use Rattle.pct_model.specs.declared.statement.Dest.TheVariants as destination
 use Rattle.pct_model.specs.declared.statement.Operand.TheVariants as operand
 use Rattle.pct_model.specs.declared.statement.Stmt.TheVariants as statement
 use Rattle.pct_model.specs.declared.stop.Why.TheVariants as why
-use Rattle.pct_laws.specs.StatementLaw.{asked, is_suspended_at, names_its_wait, says_statement, suspends_by_call, each_names_its_wait}
+use Rattle.pct_laws.specs.StatementLaw.{asked, goes_on_by, is_suspended_at, says_statement, suspends_by_call}
 use Rattle.pct_laws.specs.ThreadSteps.{ThreadStep}
 use Rattle.pct_rows.proofs.OnLiterals.{checks_on_literals, runs_on_literals}
 
@@ -451,43 +452,101 @@ a_point_is_that_of_the_statement = refl
 an_emit_suspends_nobody : suspends (statement.Emit x) (status.AtPoint 25) ≡ false
 an_emit_suspends_nobody = refl
 
--- ---- events by which a thread leaves a call
+-- ---- events by which a thread goes on that does not run
 
-joined : names_its_wait (status.Joining 3) (what.Joined 3 5) ≡ true
+-- a thread in fork
+abbrev in_fork : Status
+in_fork = status.Forking (record { phase = phase.Parent; next = 0; length = 1; answer = 2 })
+
+joined : goes_on_by (status.Joining 3) (what.Joined 3 5 ∷ []) ≡ true
 joined = refl
 
-another_thread_is_joined : names_its_wait (status.Joining 3) (what.Joined 2 5) ≡ false
+another_thread_is_joined : goes_on_by (status.Joining 3) (what.Joined 2 5 ∷ []) ≡ false
 another_thread_is_joined = refl
 
-a_running_thread_joins_none : names_its_wait status.Running (what.Joined 3 5) ≡ false
+a_join_returns_without_its_event : goes_on_by (status.Joining 3) [] ≡ false
+a_join_returns_without_its_event = refl
+
+or_by_another_event : goes_on_by (status.Joining 3) (what.Emit 5 ∷ []) ≡ false
+or_by_another_event = refl
+
+a_running_thread_joins_none : says (statement.Join x destination.Drop) (what.Joined 7 5 ∷ []) ≡ false
 a_running_thread_joins_none = refl
 
-another_semaphore_is_taken : names_its_wait (status.InSem 2) (what.Taken 1) ≡ false
+a_request_ends_a_join : goes_on_by (status.Joining 3) (what.EndingCanceled ∷ []) ≡ true
+a_request_ends_a_join = refl
+
+taken : goes_on_by (status.InSem 2) (what.Taken 2 ∷ []) ≡ true
+taken = refl
+
+another_semaphore_is_taken : goes_on_by (status.InSem 2) (what.Taken 1 ∷ []) ≡ false
 another_semaphore_is_taken = refl
 
-another_process_is_reaped : names_its_wait (status.InWaitPid 2) (what.Reaped 3 0) ≡ false
+a_sem_wait_takes_nothing : goes_on_by (status.InSem 2) [] ≡ false
+a_sem_wait_takes_nothing = refl
+
+another_process_is_reaped : goes_on_by (status.InWaitPid 2) (what.Reaped 3 0 ∷ []) ≡ false
 another_process_is_reaped = refl
 
-another_point_returns : names_its_wait (status.AtPoint 25) (what.Done 24) ≡ false
+there_is_no_child : goes_on_by (status.InWaitPid 2) (what.Answer caller.WaitPid 3 ∷ []) ≡ true
+there_is_no_child = refl
+
+a_waitpid_reaps_nothing : goes_on_by (status.InWaitPid 2) [] ≡ false
+a_waitpid_reaps_nothing = refl
+
+another_point_returns : goes_on_by (status.AtPoint 25) (what.Done 24 ∷ []) ≡ false
 another_point_returns = refl
 
-another_mutex_is_acquired : names_its_wait (status.Reacquire 0 2 cause.Signalled) (what.Acquired 1) ≡ false
+a_point_returns_without_its_event : goes_on_by (status.AtPoint 25) [] ≡ false
+a_point_returns_without_its_event = refl
+
+a_wait_returns : goes_on_by (status.Reacquire 0 2 cause.Signalled) (what.Acquired 2 ∷ what.Done cond_wait_point ∷ []) ≡ true
+a_wait_returns = refl
+
+another_mutex_is_acquired : goes_on_by (status.Reacquire 0 2 cause.Signalled) (what.Acquired 1 ∷ what.Done cond_wait_point ∷ []) ≡ false
 another_mutex_is_acquired = refl
 
-another_wait_is_left : names_its_wait (status.Waiting 0 2) (what.WaitCanceled 1) ≡ false
+a_wait_returns_without_its_mutex : goes_on_by (status.Reacquire 0 2 cause.Signalled) (what.Done cond_wait_point ∷ []) ≡ false
+a_wait_returns_without_its_mutex = refl
+
+another_wait_is_left : goes_on_by (status.Waiting 0 2) (what.WaitCanceled 1 ∷ []) ≡ false
 another_wait_is_left = refl
 
-a_wait_is_left_once : names_its_wait (status.Reacquire 0 2 cause.Canceled) (what.WaitCanceled 0) ≡ false
+a_wait_ends_without_its_mutex : goes_on_by (status.Waiting 0 2) (what.EndingCanceled ∷ []) ≡ false
+a_wait_ends_without_its_mutex = refl
+
+a_wait_is_left_once : goes_on_by (status.Reacquire 0 2 cause.Canceled) (what.WaitCanceled 0 ∷ []) ≡ false
 a_wait_is_left_once = refl
 
-another_signal_is_handed_on : names_its_wait (status.Reacquire 0 2 cause.Signalled) (what.HandedOn 1 3) ≡ false
+a_signal_is_handed_on : goes_on_by (status.Reacquire 0 2 cause.Signalled) (what.WaitCanceled 0 ∷ what.HandedOn 0 3 ∷ []) ≡ true
+a_signal_is_handed_on = refl
+
+another_signal_is_handed_on : goes_on_by (status.Reacquire 0 2 cause.Signalled) (what.WaitCanceled 0 ∷ what.HandedOn 1 3 ∷ []) ≡ false
 another_signal_is_handed_on = refl
 
-a_thread_ends_in_another_wait : names_its_wait (status.Reacquire 0 2 cause.Canceled) (what.EndingInWait 1 2) ≡ false
+a_broadcast_is_handed_on : goes_on_by (status.Reacquire 0 2 cause.Broadcast) (what.WaitCanceled 0 ∷ what.HandedOn 0 3 ∷ []) ≡ false
+a_broadcast_is_handed_on = refl
+
+a_thread_ends_in_another_wait : goes_on_by (status.Reacquire 0 2 cause.Canceled) (what.Acquired 2 ∷ what.EndingInWait 1 2 ∷ []) ≡ false
 a_thread_ends_in_another_wait = refl
 
-a_thread_that_was_not_canceled_ends : names_its_wait (status.Reacquire 0 2 cause.Signalled) (what.EndingInWait 0 2) ≡ false
+a_thread_that_was_not_canceled_ends : goes_on_by (status.Reacquire 0 2 cause.Signalled) (what.Acquired 2 ∷ what.EndingInWait 0 2 ∷ []) ≡ false
 a_thread_that_was_not_canceled_ends = refl
+
+a_fork_returns : goes_on_by in_fork [] ≡ true
+a_fork_returns = refl
+
+a_fork_returns_by_an_emit : goes_on_by in_fork (what.Emit 1 ∷ []) ≡ false
+a_fork_returns_by_an_emit = refl
+
+an_end_has_its_stages : goes_on_by status.Ending (what.EndedWith 5 ∷ what.ExitBegun 0 ∷ []) ≡ true
+an_end_has_its_stages = refl
+
+an_end_stands_still : goes_on_by status.Ending [] ≡ false
+an_end_stands_still = refl
+
+an_exit_emits : goes_on_by status.Exiting (what.Emit 1 ∷ []) ≡ false
+an_exit_emits = refl
 
 -- ---- steps
 
@@ -533,9 +592,3 @@ join_step = refl
 a_join_that_names_another_thread : suspends_by_call script (step (at 0 status.Running) (what.Called join_point ∷ []) (at 0 (status.Joining 2))) ≡ false
 unfolding runs_on_literals
 a_join_that_names_another_thread = refl
-
-joined_step : each_names_its_wait (step (at 0 (status.Joining 3)) (what.Joined 3 5 ∷ []) (at 1 status.Running)) ≡ true
-joined_step = refl
-
-a_join_that_returns_for_another_thread : each_names_its_wait (step (at 0 (status.Joining 3)) (what.Joined 2 5 ∷ []) (at 1 status.Running)) ≡ false
-a_join_that_returns_for_another_thread = refl

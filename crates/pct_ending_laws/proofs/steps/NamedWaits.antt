@@ -1,21 +1,27 @@
--- A call suspends its thread for what the operands of the statement name, and the events by which a thread leaves a call name what it was
--- suspended for.
-use Rattle.pct_names.proofs.Names.{◌&&◌, [], and_from, body_at, Bool, Cause, cond, Config, Entry, false, false≢true, has_left_wait}
-use Rattle.pct_names.proofs.Names.{is_live_thread, List, list_all, list_any, moved, named_after, nat_eq, next_of, NextStatement, not}
-use Rattle.pct_names.proofs.Names.{Others, others_of, own_after, Process, refl, Run, run, Script, SharedState, Some, Status, Stmt, subst}
-use Rattle.pct_names.proofs.Names.{sym, Thread, thread_at, Transition, transition_by, true, value_of, What, ◌||◌, ℕ, ◌∷◌, ◌≡◌}
+-- A call suspends its thread for what the operands of the statement name; and a thread that does not run goes on by the events of its call
+-- alone, which name what it was suspended for, or by those of a stage of its fork, its end or its exit.
+use Rattle.pct_names.proofs.Names.{◌&&◌, [], and_from, body_at, Bool, Cause, cond, cond_wait_point, Config, EAGAIN, ECHILD, Entry}
+use Rattle.pct_names.proofs.Names.{false, has_left_wait, is_live_thread, List, list_any, moved, named_after, nat_eq, next_of}
+use Rattle.pct_names.proofs.Names.{NextStatement, not, Others, others_of, own_after, Process, refl, Run, run, Script, SharedState}
+use Rattle.pct_names.proofs.Names.{Some, Status, Stmt, subst, sym, Thread, thread_at, Transition, transition_by, true, value_of, What}
+use Rattle.pct_names.proofs.Names.{◌||◌, ℕ, ◌∷◌, ◌≡◌}
 use Rattle.std.proofs.Common.{eq-eqb}
+use Rattle.std.proofs.lemmas.Bool.{true≢false}
+use Rattle.pct_model.specs.declared.event.What.TheVariants as what
 use Rattle.pct_model.specs.declared.state.Cause.TheVariants as cause
 use Rattle.pct_model.specs.declared.state.Status.TheVariants as status
-use Rattle.pct_laws.specs.StatementLaw.{is_call, is_suspended_at, suspends_by_call, is_in_wait_on, names_its_wait, each_names_its_wait}
-use Rattle.pct_transition_cases.proofs.TransitionCases.{TransitionCase, join_begun, join_ended, point_begun, point_passed, wait_begun}
-use Rattle.pct_transition_cases.proofs.TransitionCases.{wait_ended, canceled_in_wait, canceled_after_wait, signal_handed_on, ended_in_wait}
-use Rattle.pct_transition_cases.proofs.TransitionCases.{sem_wait_begun, sem_taken, waitpid_begun, child_reaped, fork_handler_called}
+use Rattle.pct_laws.specs.StatementLaw.{is_call, is_suspended_at, suspends_by_call, goes_on_by}
+use Rattle.pct_transition_cases.proofs.TransitionCases.{TransitionCase, rests, join_begun, join_ended, point_begun, point_passed}
+use Rattle.pct_transition_cases.proofs.TransitionCases.{wait_begun, wait_ended, canceled_in_wait, canceled_after_wait, signal_handed_on}
+use Rattle.pct_transition_cases.proofs.TransitionCases.{ended_in_wait, sem_wait_begun, sem_taken, waitpid_begun, child_reaped, child_lost}
+use Rattle.pct_transition_cases.proofs.TransitionCases.{fork_handler_called, process_not_forked}
 use Rattle.pct_thread_invariants.proofs.lift.EveryProcess.{moves_of_run}
 use Rattle.pct_thread_invariants.proofs.lift.HandlerEvents.{of_each_phase}
 use Rattle.pct_thread_invariants.proofs.lift.TakenSteps.{IsTaken}
 use Rattle.pct_thread_invariants.proofs.lift.ThreadsAfter.{Moves, mover}
 use Rattle.pct_thread_invariants.proofs.lift.MovedThreads.{EveryStep, step_of, case_of_step, every_step}
+use Rattle.pct_frame_laws.proofs.frames.FrameCases.{is_idle}
+use Rattle.pct_ending_laws.proofs.steps.MadeStages.{never_idle}
 
 pub same : (n : ℕ) → nat_eq n n ≡ true
 same n = eq-eqb n n refl
@@ -23,15 +29,16 @@ same n = eq-eqb n n refl
 pub both_same : (m n : ℕ) → nat_eq m m && nat_eq n n ≡ true
 both_same m n = and_from (nat_eq m m) (nat_eq n n) (same m) (same n)
 
--- a thread that was not canceled in its wait, after it was unblocked
-in_wait : (c m : ℕ) (why : Cause) → has_left_wait (status.Reacquire c m why) ≡ false → is_in_wait_on c (status.Reacquire c m why) ≡ true
-in_wait c m cause.Signalled stays = same c
-in_wait c m cause.Broadcast stays = same c
-in_wait c m cause.Canceled leaves = absurd (false≢true (sym leaves))
+-- a thread that was not canceled in its wait, after it was unblocked: it returns, or acts upon a request
+returned : (c m : ℕ) (why : Cause) → has_left_wait (status.Reacquire c m why) ≡ false → goes_on_by (status.Reacquire c m why) (what.Acquired m ∷ what.Done cond_wait_point ∷ []) ≡ true
+returned c m cause.Signalled stays = both_same m cond_wait_point
+returned c m cause.Broadcast stays = both_same m cond_wait_point
+returned c m cause.Canceled stays = absurd (true≢false stays)
 
--- a test that comes first of two that are conjoined
-first_of : (a : Bool) → a ≡ true → (a && true) ≡ true
-first_of a is = and_from a true is refl
+left : (c m : ℕ) (why : Cause) → has_left_wait (status.Reacquire c m why) ≡ false → goes_on_by (status.Reacquire c m why) (what.WaitCanceled c ∷ []) ≡ true
+left c m cause.Signalled stays = same c
+left c m cause.Broadcast stays = same c
+left c m cause.Canceled stays = absurd (true≢false stays)
 
 module _ (passes : ℕ) (body : List Stmt) (shared : SharedState) (t : Thread) (others : Others) where
   -- the status of the thread after its transition
@@ -50,19 +57,22 @@ module _ (passes : ℕ) (body : List Stmt) (shared : SharedState) (t : Thread) (
       of_each_phase (λ (w : What). (not (list_any is_call (w ∷ [])) || is_suspended_at shared.globals next status.Running) ≡ true) call.func refl refl refl at.phase
   case_suspends _ = refl
 
-  -- the events name what the thread was suspended for
-  case_names : {next : NextStatement} {s : Status} {o : Transition} → TransitionCase passes body shared t others true next s o → list_all (names_its_wait s) o.events ≡ true
-  case_names (join_ended frame operand d id v target is ended) = first_of (nat_eq id id) (same id)
-  case_names (point_passed frame index i) = first_of (nat_eq index index) (same index)
-  case_names (wait_ended frame d n c m why stays free) = first_of (nat_eq m m) (same m)
-  case_names (canceled_in_wait next c m asked) = first_of (nat_eq c c) (same c)
-  case_names (canceled_after_wait next c m why stays asked) = first_of (is_in_wait_on c (status.Reacquire c m why)) (in_wait c m why stays)
-  case_names (signal_handed_on next c m u asked among) = and_from (nat_eq c c) _ (same c) (first_of (nat_eq c c) (same c))
-  case_names (ended_in_wait next c m free) = and_from (nat_eq m m) _ (same m) (first_of (nat_eq c c && nat_eq m m) (both_same c m))
-  case_names (sem_taken frame n sem above) = first_of (nat_eq sem sem) (same sem)
-  case_names (child_reaped frame result d operand pid n child is ended) = first_of (nat_eq pid pid) (same pid)
-  case_names {s = s} (fork_handler_called _ at call is) = of_each_phase (λ (w : What). list_all (names_its_wait s) (w ∷ []) ≡ true) call.func refl refl refl at.phase
-  case_names _ = refl
+  -- a thread that does not run goes on by its events
+  case_continues : {next : NextStatement} {s : Status} {o : Transition} → TransitionCase passes body shared t others true next s o → is_idle o ≡ false → goes_on_by s o.events ≡ true
+  case_continues (rests next s alive) some = absurd (true≢false some)
+  case_continues (join_ended frame operand d id v target is ended) some = same id
+  case_continues (point_passed frame index i) some = same index
+  case_continues (wait_ended frame d n c m why stays free) some = returned c m why stays
+  case_continues (canceled_in_wait next c m asked) some = same c
+  case_continues (canceled_after_wait next c m why stays asked) some = left c m why stays
+  case_continues (signal_handed_on next c m u asked among) some = both_same c c
+  case_continues (ended_in_wait next c m free) some = and_from (nat_eq m m && nat_eq c c) (nat_eq m m) (both_same m c) (same m)
+  case_continues (sem_taken frame n sem above) some = same sem
+  case_continues (child_reaped frame result d operand pid n child is ended) some = same pid
+  case_continues (child_lost frame result d operand pid) some = same ECHILD
+  case_continues (process_not_forked next at prepares) some = same EAGAIN
+  case_continues (fork_handler_called _ at call is) some = of_each_phase (λ (w : What). goes_on_by (status.Forking at) (w ∷ []) ≡ true) call.func refl refl refl at.phase
+  case_continues _ some = refl
 
 -- ---- each step of a run
 
@@ -76,14 +86,16 @@ module _ (script : Script) (config : Config) where
       subst (λ (b : Bool). (not (list_any is_call o.events) || is_suspended_at p.shared.globals (next_of script t.frames) (named_after o.named (cond b (moved o t) t)).status) ≡ true) (sym live)
       (case_suspends config.passes (body_at script t.frames) p.shared t (others_of config.slots r.world p t.id) (case_of_step script config r.world p e t moves))
 
-  names_of_step : (before : List Entry) (r : Run) → run script config before ≡ Some r → (e : Entry) (p : Process) (t : Thread) → IsTaken script config r.world e p t → each_names_its_wait (step_of script config r p e t) ≡ true
-  names_of_step before r is e p t taken =
-      case_names config.passes (body_at script t.frames) p.shared t (others_of config.slots r.world p t.id) (case_of_step script config r.world p e t (moves_of_run script config before r is e p t taken))
+  continues_of_step : (before : List Entry) (r : Run) → run script config before ≡ Some r → (e : Entry) (p : Process) (t : Thread) → IsTaken script config r.world e p t
+      → goes_on_by t.status (step_of script config r p e t).events ≡ true
+  continues_of_step before r is e p t taken =
+      case_continues config.passes (body_at script t.frames) p.shared t (others_of config.slots r.world p t.id)
+      (case_of_step script config r.world p e t (moves_of_run script config before r is e p t taken)) (never_idle script config before r is e p t taken)
 
   -- each call suspends its thread for what its operands name
   pub suspends_of_run : EveryStep script config (λ s. suspends_by_call script s ≡ true)
   suspends_of_run = every_step script config (λ s. suspends_by_call script s ≡ true) suspends_of_step
 
-  -- each event by which a thread leaves a call names what it was suspended for
-  pub names_of_run : EveryStep script config (λ s. each_names_its_wait s ≡ true)
-  names_of_run = every_step script config (λ s. each_names_its_wait s ≡ true) names_of_step
+  -- each thread that does not run goes on by its events
+  pub continues_of_run : EveryStep script config (λ s. goes_on_by s.before.status s.events ≡ true)
+  continues_of_run = every_step script config (λ s. goes_on_by s.before.status s.events ≡ true) continues_of_step

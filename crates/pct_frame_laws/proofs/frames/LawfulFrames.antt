@@ -54,7 +54,7 @@ module _ (script : Script) (config : Config) where
     fork = forks_of_run script config before r is e.pid e.tid t made_is (mover script config r.world p e t moves).here
 
     -- a thread in a function has something to do
-    busy : has_no_frame t.status ≡ false → is_idle o ≡ false
+    pub busy : has_no_frame t.status ≡ false → is_idle o ≡ false
     busy inside =
         always_busy config.passes (body_at script t.frames) p.shared t others e.alt next t.status taken.offered
         (any_busy script t.status t.frames t.reason t.handlers t.kept reported fits.by_status fork.keeps) inside
