@@ -72,8 +72,8 @@ pub record Laws (script : Script) (config : Config) (entries : List Entry) (r : 
   -- a signal unblocks one of the threads that wait and a broadcast all, each with the mutex of its wait; no other thread is unblocked, and
   -- a step changes nothing of another thread but what its events say; a signal is not lost as its thread acts upon a request
   pub wakes : WakeLaw script config entries
-  -- owners and counts change by the events that say so; atexit and pthread_atfork register what they name, unless they fail, and nothing
-  -- else is registered
+  -- owners and counts change by the events that say so, and a semaphore is taken only where its count is above 0; atexit and pthread_atfork
+  -- register what they name, unless they fail, and nothing else is registered
   pub shared : SharedLaw script config entries
   -- a new thread gets an id that no known thread of its process has had, and each known thread on its slot has ended and was joined or is
   -- detached
