@@ -43,7 +43,8 @@ pub record Laws (script : Script) (config : Config) (entries : List Entry) (r : 
   -- the stages of an end follow each other, and keys with values are left only after the last pass
   pub ends : Ends script config entries r.events
   -- a thread is canceled only by a request, with cancelability enabled, at a cancellation point or with the asynchronous type; and with
-  -- a request to act upon it acts at each function that it calls and that shall be a cancellation point
+  -- a request to act upon it acts at each function that it calls and that shall be a cancellation point; its state and type are those that
+  -- it sets, until it begins to end
   pub cancels : CancelLaw script config entries r
   -- a running thread makes the events of its next statement, with the values of the operands, unless it acts upon a request or its
   -- statement is a stop; a call suspends it for what the operands name, and it leaves the call with an event that names the same
