@@ -9,7 +9,7 @@ prove the laws of it. It is refused if the check does not prove them, and if an 
 the law, or of a part of the invariant which this law needs. Other files have errors, too, where their proofs use the line that
 was changed. A crate is checked only where those below it are proved, so in the copy the eight crates that prove the laws are one.
 The list of the cases of a transition, from which the laws are proved, repeats the transitions; where the changed line is one of a
-transition, its case is changed alike, so that what is refused is the law.
+transition, or of a choice, its case is changed alike, so that what is refused is the law.
 
 With names only these machines are tried. A machine takes about forty seconds. `rt` has to be in the PATH. The last line is
 `N passed, M failed`. The status is 1 if M is not 0 or N is 0.
@@ -43,6 +43,8 @@ class Machine:
     wrong: str
     # The file of the cases, its line, and the line in its place, where the case of the transition repeats the line.
     case: tuple = ()
+    # The same, where the definition of what is offered (OfferedChoices) repeats the line, too.
+    offer: tuple = ()
 
 
 MACHINES = (
@@ -73,6 +75,9 @@ MACHINES = (
     Machine("cancelability_is_not_set", "CancelLaw", "requests/CancelStates", "Actions",
             "own_after (Some (own_action.SetState state)) t = record t { state = state }",
             "own_after (Some (own_action.SetState state)) t = t"),
+    Machine("the_type_stays_at_the_end", "CancelLaw", "requests/SetCancelability", "Actions",
+            "own_after (Some (own_action.BeginEnd why)) t = record t { status = Ending; frames = []; state = ending_state; mode = ending_mode; reason = why;",
+            "own_after (Some (own_action.BeginEnd why)) t = record t { status = Ending; frames = []; state = ending_state; reason = why;"),
     Machine("each_thread_counts_as_the_last", "AfterEnd", "LastThreads", "OtherThreads",
             "is_last id threads = list_all (λ t. not (holds_slot t) || (t.ended || nat_eq t.id id)) threads",
             "is_last id threads = list_all (λ t. t.ended || not t.ended) threads"),
@@ -159,6 +164,15 @@ MACHINES = (
             ("TransitionCases",
              "(record (goes_on (suc frame.pc) (what.Released m ∷ [])) { shared = Some (shared_action.OwnMutex m 0) })",
              "(goes_on (suc frame.pc) (what.Released m ∷ []))")),
+    Machine("sem_wait_returns_at_0", "SharedLaw", "SharedChanges", "ChoiceTable",
+            "choices_at next (status.InSem s) = go_if (nat_lt 0 (slice_index shared.counts s)) ++",
+            "choices_at next (status.InSem s) = go_if true ++",
+            ("TransitionCases",
+             "sem_taken : (frame : Frame) (s sem : ℕ) → (offered ≡ true → nat_lt 0 (slice_index shared.counts sem) ≡ true)",
+             "sem_taken : (frame : Frame) (s sem : ℕ) → (offered ≡ true → true ≡ true)"),
+            ("OfferedChoices",
+             "goes_at shared others (status.InSem sem) = nat_lt 0 (slice_index shared.counts sem)",
+             "goes_at shared others (status.InSem sem) = true")),
     Machine("atexit_registers_nothing", "SharedLaw", "SharedChanges", "Actions",
             "shared_after (Some (shared_action.AddExit f)) s = record s { exit_functions = f ∷ s.exit_functions }",
             "shared_after (Some (shared_action.AddExit f)) s = s"),
@@ -220,6 +234,9 @@ MACHINES = (
             "thread_at (Some pc) t = record t { status = Running; frames = at_pc pc t.frames }",
             "thread_at (Some pc) t = elim t.frames [ [] ↦ t | frame ∷ below ↦ elim frame.kind [ "
             "kind.Handler ↦ record t { status = Ending; frames = [] } | _ ↦ record t { status = Running; frames = at_pc pc t.frames } ] ]"),
+    Machine("a_called_function_has_a_local", "FrameLaw", "frames/MovedFrames", "Actions",
+            "own_after (Some (own_action.Call f a kind)) t = record t { status = Running; frames = new_frame f a kind ∷ t.frames }",
+            "own_after (Some (own_action.Call f a kind)) t = record t { status = Running; frames = record (new_frame f a kind) { locals = a ∷ 7 ∷ 0 ∷ 0 ∷ 0 ∷ 0 ∷ 0 ∷ 0 ∷ [] } ∷ t.frames }"),
     Machine("a_test_is_always_true", "FrameLaw", "frames/FrameCases", "ScriptStatements",
             "after_test body pc v = if nat_eq v 0 then after_block body pc else suc pc",
             "after_test body pc v = suc pc"),
@@ -258,8 +275,7 @@ def errors(folder):
 def tried(machine, folder):
     """Why the machine is not refused as it should be, or None, and the files in which its proofs fail."""
     changes = [(folder / SPECS, machine.file, machine.line, machine.wrong)]
-    if machine.case:
-        changes.append((folder / CASES, *machine.case))
+    changes += [(folder / CASES, *change) for change in (machine.case, machine.offer) if change]
     texts = {}
     for parent, file, line, wrong in changes:
         path = parent / f"{file}.antt"

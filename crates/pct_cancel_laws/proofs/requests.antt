@@ -8,3 +8,4 @@ pub mod LawfulRequests
 pub mod AwakenedThreads
 pub mod ActingSteps
 pub mod ActingCalls
+pub mod SetCancelability

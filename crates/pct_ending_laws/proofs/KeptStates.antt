@@ -4,7 +4,7 @@ use Rattle.pct_names.proofs.Names.{option_and_then, option_and_then_some, Run, r
 use Rattle.pct_names.proofs.Names.{◌≡◌}
 use Rattle.pct_model.specs.declared.state.Status.TheVariants as status
 use Rattle.pct_laws.specs.Calls.{EachIsCalled, says_calls, KeepsExitFunctions, KeepsKeys}
-use Rattle.pct_laws.specs.CancelLaw.{acts_where_it_may, acts_at_calls}
+use Rattle.pct_laws.specs.CancelLaw.{acts_where_it_may, acts_at_calls, SetsCancelability}
 use Rattle.pct_laws.specs.CreationLaw.{CreatesThreads}
 use Rattle.pct_laws.specs.Ends.{each_may_begin, KeepsValues}
 use Rattle.pct_laws.specs.ForkLaw.{KeepsFork}
@@ -38,6 +38,7 @@ use Rattle.pct_cancel_laws.proofs.requests.AwakenedThreads.{awakened_of_run}
 use Rattle.pct_cancel_laws.proofs.requests.CancelStates.{cancelability_of_run}
 use Rattle.pct_cancel_laws.proofs.requests.LawfulRequests.{requests_of_run}
 use Rattle.pct_cancel_laws.proofs.requests.PendingRequests.{pending_of_run}
+use Rattle.pct_cancel_laws.proofs.requests.SetCancelability.{sets_cancelability_of_run}
 use Rattle.pct_creation_laws.proofs.creations.NewProcesses.{new_processes_of_run}
 use Rattle.pct_creation_laws.proofs.creations.NewThreads.{new_threads_of_run}
 use Rattle.pct_creation_laws.proofs.forks.CalledHandlers.{fork_handlers_of_run}
@@ -103,6 +104,7 @@ every_run_keeps_laws script config entries r is = record {
     requests = requests_of_run script config entries r is;
     acts = each_step script config (λ s. acts_where_it_may script s ≡ true) (each_may_act_of_run script config) entries;
     at_calls = each_step script config (λ s. acts_at_calls script s ≡ true) (acts_at_calls_of_run script config) entries;
+    set = each_step script config SetsCancelability (sets_cancelability_of_run script config) entries;
     awakened = awakened_of_run script config entries r is;
   };
   statements = record {

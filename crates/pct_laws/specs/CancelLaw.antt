@@ -2,8 +2,9 @@
 -- 2.9.5.3); a thread with cancelability enabled and a request pending returns from no function that it calls then and that shall be a
 -- cancellation point, and is suspended in none: it acts on the request (XSH 2.9.5.2); with cancelability deferred it acts only at a
 -- cancellation point (XSH 2.9.5.1, 2.9.5.2), and in a condition wait by the stages of the wait (XSH pthread_cond_wait); one that was
--- suspended before is awakened (XSH 2.9.5.2); and a thread that has begun to end enables cancelability no more (XSH 2.9.5.3).
-use Rattle.std.specs.Prelude.{◌≡◌, Bool, true, false, not, ◌&&◌, ◌||◌, List, [], ◌∷◌}
+-- suspended before is awakened (XSH 2.9.5.2); and a thread that has begun to end enables cancelability no more (XSH 2.9.5.3). The
+-- cancelability state and type of a thread change in its own steps only as their events say (XSH pthread_setcancelstate, 2.9.5.3).
+use Rattle.std.specs.Prelude.{◌≡◌, if◌then◌else◌, Bool, true, false, not, ◌&&◌, ◌||◌, List, [], ◌∷◌}
 use Rattle.std.specs.List.{list_any}
 use Rattle.pct_model.specs.declared.event.Event.{Event}
 use Rattle.pct_model.specs.declared.event.What.{What}
@@ -14,9 +15,13 @@ use Rattle.pct_model.specs.declared.schedule.Config.{Config}
 use Rattle.pct_model.specs.declared.schedule.Entry.{Entry}
 use Rattle.pct_model.specs.declared.script.Script.{Script}
 use Rattle.pct_model.specs.declared.state.Cause.TheVariants as cause
+use Rattle.pct_model.specs.declared.state.Mode.{Mode}
+use Rattle.pct_model.specs.declared.state.Mode.TheVariants.{Deferred}
+use Rattle.pct_model.specs.declared.state.State.{State}
+use Rattle.pct_model.specs.declared.state.State.TheVariants.{Disable}
 use Rattle.pct_model.specs.declared.state.Status.{Status}
 use Rattle.pct_model.specs.declared.state.Status.TheVariants as status
-use Rattle.pct_model.specs.CancelCalls.{called_kind, is_required}
+use Rattle.pct_model.specs.CancelCalls.{called_kind, is_required, state_if, mode_if}
 use Rattle.pct_model.specs.ChoiceTable.{choices_of}
 use Rattle.pct_laws.specs.CancelEvents.{is_asynchronous_last, has_to_act}
 use Rattle.pct_model.specs.NextStatement.{NextStatement, NoStatement, StatementIn, next_of}
@@ -24,7 +29,9 @@ use Rattle.pct_laws.specs.ThreadSteps.{ThreadStep, EachStep}
 use Rattle.pct_laws.specs.Kept.{EachProcess, EachThreadOf}
 use Rattle.pct_model.specs.StatusKinds.{is_at_cancellation_point}
 use Rattle.pct_model.specs.Run.{Run}
+use Rattle.pct_laws.specs.AfterAll.{after_all}
 use Rattle.pct_laws.specs.Each.{each}
+use Rattle.pct_laws.specs.RanAll.{begins_to_end}
 use Rattle.pct_laws.specs.RequestsLaw as RequestsLaw
 use Rattle.pct_model.specs.World.{World}
 
@@ -63,6 +70,25 @@ abbrev pub acts_at_calls : Script → ThreadStep → Bool
 acts_at_calls script s =
     not (is_running s.before.status && calls_required_point (next_of script s.before.frames) && has_to_act s.pid s.tid s.earlier) || acts_or_stops s.events
 
+-- the cancelability state of a thread after an event of its own: that of a pthread_setcancelstate, and disabled as the thread begins to end
+-- (XSH pthread_setcancelstate, 2.9.5.3). That it is disabled as the thread begins to exit its process is a choice of this host
+abbrev pub state_after : What → State → State
+state_after (what.StateSet enable) state = state_if enable
+state_after (what.ExitBegun v) state = Disable
+state_after w state = if begins_to_end w then Disable else state
+
+-- its type after such an event: that of a pthread_setcanceltype, and deferred as the thread begins to end (XSH pthread_setcancelstate,
+-- 2.9.5.3). That it is deferred as the thread begins to exit its process is a choice of this host
+abbrev pub mode_after : What → Mode → Mode
+mode_after (what.ModeSet asynchronous) mode = mode_if asynchronous
+mode_after (what.ExitBegun v) mode = Deferred
+mode_after w mode = if begins_to_end w then Deferred else mode
+
+-- what a step does to the cancelability of its thread
+pub record SetsCancelability (s : ThreadStep) : Type 0 where
+  pub state : s.after.state ≡ after_all state_after s.events s.before.state
+  pub mode : s.after.mode ≡ after_all mode_after s.events s.before.mode
+
 -- ---- the law of a state
 
 -- a thread with this status is suspended in a cancellation point, and has acted upon no request there
@@ -94,4 +120,5 @@ pub record CancelLaw (script : Script) (config : Config) (entries : List Entry) 
   pub requests : each RequestsLaw.allows r.events ≡ true
   pub acts : EachStep script config entries (λ s. acts_where_it_may script s ≡ true)
   pub at_calls : EachStep script config entries (λ s. acts_at_calls script s ≡ true)
+  pub set : EachStep script config entries SetsCancelability
   pub awakened : Awakened script config r.world r.events

@@ -5,8 +5,8 @@
 -- pthread_exit, pthread_cleanup_pop, pthread_key_create, pthread_atfork, fork, exit).
 --
 -- It leaves open which functions the events report (Calls.antt), and the locals of functions that go on (ResultLaw.antt).
-use Rattle.std.specs.Prelude.{◌≡◌, ◌≢◌, ℕ, suc, if◌then◌else◌, Bool, true, false, ◌||◌, List, [], ◌∷◌, ◌++◌, length, map, flat_map, take, nat_eq}
-use Rattle.std.specs.Prelude.{Option, Some, None, is_none, slice_index, unwrap_or}
+use Rattle.std.specs.Prelude.{◌≡◌, ◌≢◌, ℕ, suc, ◌-◌, if◌then◌else◌, Bool, true, false, ◌||◌, List, [], ◌∷◌, ◌++◌, length, map, flat_map}
+use Rattle.std.specs.Prelude.{take, nat_eq, Option, Some, None, is_none, replicate, unwrap_or}
 use Rattle.std.specs.List.{list_any}
 use Rattle.std.specs.Option.{option_map_or}
 use Rattle.pct_model.specs.declared.event.Caller.TheVariants as caller
@@ -14,6 +14,7 @@ use Rattle.pct_model.specs.declared.event.Event.{Event}
 use Rattle.pct_model.specs.declared.event.What.{What}
 use Rattle.pct_model.specs.declared.event.What.TheVariants as what
 use Rattle.pct_model.specs.declared.frame.Frame.{Frame}
+use Rattle.pct_model.specs.declared.limits.TheConstants.{MAX_LOCALS}
 use Rattle.pct_model.specs.declared.schedule.Config.{Config}
 use Rattle.pct_model.specs.declared.schedule.Entry.{Entry}
 use Rattle.pct_model.specs.declared.script.Script.{Script}
@@ -49,6 +50,10 @@ reported_by _ = []
 abbrev pub calls_of : List ℕ → List What → NextStatement → List Call
 calls_of globals [] (StatementIn frame (statement.Do f v)) = (f, value_of globals frame v, kind.Call) ∷ []
 calls_of globals events next = flat_map reported_by events
+
+-- the locals of a function as it is called: its argument is the first, and each other is 0, a choice of this host
+abbrev pub locals_at_call : Call → List ℕ
+locals_at_call call = call.1 ∷ replicate (MAX_LOCALS - 1) 0
 
 -- ---- statements
 
@@ -121,8 +126,8 @@ its_calls script s = calls_of s.process.shared.globals s.events (next_of script 
 -- what a step does to the frames of its thread
 pub record MovesFrames (script : Script) (s : ThreadStep) : Type 0 where
   pub places : places s.after.frames ≡ (if list_any leaves_all s.events then [] else map (λ call. (call.0, 0, call.2)) (its_calls script s) ++ places_left script s)
-  -- a function that is called has its argument
-  pub arguments : map (λ frame. slice_index frame.locals 0) (take (length (its_calls script s)) s.after.frames) ≡ map (λ call. call.1) (its_calls script s)
+  -- a function that is called has its argument, and 0 in each other local
+  pub arguments : map (λ frame. frame.locals) (take (length (its_calls script s)) s.after.frames) ≡ map locals_at_call (its_calls script s)
 
 -- a step changes no frame of another thread of its process
 abbrev pub KeepsOtherFrames : ThreadStep → Type 0

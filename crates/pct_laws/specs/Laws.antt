@@ -43,7 +43,8 @@ pub record Laws (script : Script) (config : Config) (entries : List Entry) (r : 
   -- the stages of an end follow each other, and keys with values are left only after the last pass
   pub ends : Ends script config entries r.events
   -- a thread is canceled only by a request, with cancelability enabled, at a cancellation point or with the asynchronous type; and with
-  -- a request to act upon it acts at each function that it calls and that shall be a cancellation point
+  -- a request to act upon it acts at each function that it calls and that shall be a cancellation point; its state and type are those that
+  -- it sets, until it begins to end
   pub cancels : CancelLaw script config entries r
   -- a running thread makes the events of its next statement, with the values of the operands, unless it acts upon a request or its
   -- statement is a stop; a call suspends it for what the operands name, and it leaves the call with an event that names the same
@@ -72,8 +73,8 @@ pub record Laws (script : Script) (config : Config) (entries : List Entry) (r : 
   -- a signal unblocks one of the threads that wait and a broadcast all, each with the mutex of its wait; no other thread is unblocked, and
   -- a step changes nothing of another thread but what its events say; a signal is not lost as its thread acts upon a request
   pub wakes : WakeLaw script config entries
-  -- owners and counts change by the events that say so; atexit and pthread_atfork register what they name, unless they fail, and nothing
-  -- else is registered
+  -- owners and counts change by the events that say so, and a semaphore is taken only where its count is above 0; atexit and pthread_atfork
+  -- register what they name, unless they fail, and nothing else is registered
   pub shared : SharedLaw script config entries
   -- a new thread gets an id that no known thread of its process has had, and each known thread on its slot has ended and was joined or is
   -- detached

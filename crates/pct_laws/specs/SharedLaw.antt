@@ -1,8 +1,10 @@
 -- The law of what the threads of a process share, but for the globals (ResultLaw.antt) and the keys (Calls.antt): the owner of a mutex and
 -- the count of a semaphore change by the events that say so alone (XSH pthread_mutex_lock, pthread_mutex_unlock, pthread_cond_wait,
--- sem_wait, sem_post); atexit and pthread_atfork register what they name, unless they fail, and no other step registers anything; exit
--- begins by its event alone, and takes the newest exit function away as it calls it (XSH atexit, pthread_atfork, exit).
-use Rattle.std.specs.Prelude.{◌≡◌, ℕ, suc, ◌-◌, ◌%◌, List, [], ◌∷◌, ◌++◌, Option, Some, slice_index, slice_set}
+-- sem_wait, sem_post), and a semaphore is taken only where its count is above 0 (XSH sem_wait); atexit and pthread_atfork register what
+-- they name, unless they fail, and no other step registers anything; exit begins by its event alone, and takes the newest exit function
+-- away as it calls it (XSH atexit, pthread_atfork, exit).
+use Rattle.std.specs.Prelude.{◌≡◌, ℕ, suc, ◌-◌, ◌%◌, Bool, true, nat_lt, List, [], ◌∷◌, ◌++◌, Option, Some, slice_index, slice_set}
+use Rattle.std.specs.List.{list_all}
 use Rattle.pct_model.specs.declared.event.What.{What}
 use Rattle.pct_model.specs.declared.event.What.TheVariants as what
 use Rattle.pct_model.specs.declared.process.ForkHandlers.{ForkHandlers}
@@ -54,6 +56,17 @@ abbrev pub new_fork_handlers : List What → Status → NextStatement → List F
 new_fork_handlers [] status.Running (StatementIn frame (statement.AtFork result prepare parent child)) = record { prepare = prepare; parent = parent; child = child } ∷ []
 new_fork_handlers events s next = []
 
+-- ---- what a step takes
+
+-- sem_wait takes 1 only from a count that is above 0 (XSH sem_wait): no event says that it took from another of these counts
+abbrev pub is_above_0 : List ℕ → What → Bool
+is_above_0 counts (what.Taken sem) = nat_lt 0 (slice_index counts sem)
+is_above_0 counts _ = true
+
+-- so it is of each event of a step, by the counts before it
+abbrev pub takes_above_0 : ThreadStep → Bool
+takes_above_0 s = list_all (is_above_0 s.process.shared.counts) s.events
+
 -- ---- the law
 
 -- what a step with these events, of thread tid with this status and this next statement, makes of the state that its process shares
@@ -70,3 +83,4 @@ pub record ChangesShared (tid : ℕ) (events : List What) (s : Status) (next : N
 -- the law of the shared state, of the run of a schedule
 pub record SharedLaw (script : Script) (config : Config) (entries : List Entry) : Type 0 where
   pub changes : EachStep script config entries (λ s. ChangesShared s.tid s.events s.before.status (next_of script s.before.frames) s.process.shared s.process_after.shared)
+  pub above_0 : EachStep script config entries (λ s. takes_above_0 s ≡ true)

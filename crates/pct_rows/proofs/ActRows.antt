@@ -1,10 +1,11 @@
--- The law of cancellation, of a step and of a state: made steps in which a thread acts upon a request, and made states of suspended threads.
+-- The law of cancellation, of a step and of a state: made steps in which a thread acts upon a request, or sets its cancelability, and made
+-- states of suspended threads.
 -- Some keep the law, and each that does not has the name of the sentence that it breaks.
-use Rattle.pct_names.proofs.Names.{[], ap, Asynchronous, Bool, calls_cancellation_point, choices_of, codes, cond, default_config, Disable}
-use Rattle.pct_names.proofs.Names.{Enable, Event, false, false≢true, first_process, Func, is_at_cancellation_point, is_static, IsTrue, List}
-use Rattle.pct_names.proofs.Names.{list_any, map, nat_eq, new_frame, new_thread, None, none-some, NoStatement, option_map_or, Prepare}
-use Rattle.pct_names.proofs.Names.{Process, refl, replicate, Script, Some, State, StatementIn, Status, Stmt, subst, sym, Thread}
-use Rattle.pct_names.proofs.Names.{thread_with, true, What, World, ℕ, ◌∙◌, ◌∷◌, ◌≡◌}
+use Rattle.pct_names.proofs.Names.{[], ap, Asynchronous, Bool, calls_cancellation_point, choices_of, codes, cond, default_config, Deferred}
+use Rattle.pct_names.proofs.Names.{Disable, Enable, Event, false, false≢true, first_process, Func, is_at_cancellation_point, is_static}
+use Rattle.pct_names.proofs.Names.{IsTrue, List, list_any, map, Mode, nat_eq, new_frame, new_thread, None, none-some, NoStatement}
+use Rattle.pct_names.proofs.Names.{option_map_or, Prepare, Process, refl, replicate, Script, Some, State, StatementIn, Status, Stmt, subst}
+use Rattle.pct_names.proofs.Names.{sym, Thread, thread_with, true, What, World, ℕ, ◌∙◌, ◌∷◌, ◌≡◌}
 use Rattle.std.proofs.lemmas.Bool.{eqb-true, eq-eqb}
 use Rattle.pct_model.specs.declared.event.What.TheVariants as what
 use Rattle.pct_model.specs.declared.state.Cause.TheVariants as cause
@@ -15,7 +16,7 @@ use Rattle.pct_model.specs.declared.statement.Operand.TheVariants as operand
 use Rattle.pct_model.specs.declared.statement.Stmt.TheVariants as statement
 use Rattle.pct_model.specs.declared.stop.Why.TheVariants as why
 use Rattle.pct_laws.specs.CancelEvents.{has_to_act}
-use Rattle.pct_laws.specs.CancelLaw.{acts_where_it_may, acts_at_calls, is_suspended, is_to_act, Awakened}
+use Rattle.pct_laws.specs.CancelLaw.{acts_where_it_may, acts_at_calls, is_suspended, is_to_act, Awakened, SetsCancelability}
 use Rattle.pct_laws.specs.ThreadSteps.{ThreadStep}
 use Rattle.pct_rows.proofs.OnLiterals.{checks_on_literals, runs_on_literals}
 
@@ -181,6 +182,51 @@ nor_goes_on_without_an_event = refl
 nor_calls_it_as_it_acts : acts_at_calls script (step requested (at 2 status.Running) (what.EndingCanceled ∷ what.Called 25 ∷ [])) ≡ false
 unfolding runs_on_literals
 nor_calls_it_as_it_acts = refl
+
+-- ---- steps that set cancelability
+
+-- a thread with this cancelability state and type
+abbrev cancelable : State → Mode → Thread
+cancelable state mode = record (at 0 status.Running) { state = state; mode = mode }
+
+-- a step with these events, before and after which the thread is such a one
+abbrev sets : List What → Thread → Thread → ThreadStep
+sets events before after = record (step [] before events) { after = after }
+
+abbrev is_enabled : State → Bool
+is_enabled Enable = true
+is_enabled Disable = false
+
+abbrev is_deferred : Mode → Bool
+is_deferred Deferred = true
+is_deferred Asynchronous = false
+
+a_call_sets_the_state : SetsCancelability (sets (what.StateSet false ∷ []) (cancelable Enable Deferred) (cancelable Disable Deferred))
+a_call_sets_the_state = record { state = refl; mode = refl }
+
+and_does_not_leave_it : SetsCancelability (sets (what.StateSet false ∷ []) (cancelable Enable Deferred) (cancelable Enable Deferred)) → ⊥
+and_does_not_leave_it law = absurd (false≢true (sym (ap is_enabled law.state)))
+
+nor_set_the_type : SetsCancelability (sets (what.StateSet false ∷ []) (cancelable Enable Deferred) (cancelable Disable Asynchronous)) → ⊥
+nor_set_the_type law = absurd (false≢true (ap is_deferred law.mode))
+
+another_sets_the_type : SetsCancelability (sets (what.ModeSet true ∷ []) (cancelable Enable Deferred) (cancelable Enable Asynchronous))
+another_sets_the_type = record { state = refl; mode = refl }
+
+it_is_disabled_and_deferred_at_the_end : SetsCancelability (sets (what.EndingCanceled ∷ []) (cancelable Enable Asynchronous) (cancelable Disable Deferred))
+it_is_disabled_and_deferred_at_the_end = record { state = refl; mode = refl }
+
+so_it_is_in_a_wait : SetsCancelability (sets (what.Acquired 0 ∷ what.EndingInWait 0 0 ∷ []) (cancelable Enable Asynchronous) (cancelable Disable Deferred))
+so_it_is_in_a_wait = record { state = refl; mode = refl }
+
+no_end_leaves_it_enabled : SetsCancelability (sets (what.EndingExit 5 ∷ []) (cancelable Enable Asynchronous) (cancelable Enable Deferred)) → ⊥
+no_end_leaves_it_enabled law = absurd (false≢true (sym (ap is_enabled law.state)))
+
+nor_asynchronous : SetsCancelability (sets (what.EndingExit 5 ∷ []) (cancelable Enable Asynchronous) (cancelable Disable Asynchronous)) → ⊥
+nor_asynchronous law = absurd (false≢true (ap is_deferred law.mode))
+
+no_other_step_enables_it : SetsCancelability (sets (what.Emit 1 ∷ []) (cancelable Disable Deferred) (cancelable Enable Deferred)) → ⊥
+no_other_step_enables_it law = absurd (false≢true (sym (ap is_enabled law.state)))
 
 -- ---- cancellation points
 

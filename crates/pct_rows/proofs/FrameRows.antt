@@ -91,6 +91,11 @@ abbrev lower_pc : List Place → ℕ
 lower_pc [] = 0
 lower_pc (place ∷ below) = top_pc below
 
+-- a local of the function on top
+abbrev top_local : ℕ → List (List ℕ) → ℕ
+top_local i [] = 0
+top_local i (locals ∷ below) = slice_index locals i
+
 abbrev depth : List Place → ℕ
 depth places = length places
 
@@ -138,13 +143,21 @@ do_calls_the_function : Moves status.Running (main 6 ∷ []) [] (work 0 7 kind.C
 unfolding runs_on_literals
 do_calls_the_function = record { places = refl; arguments = refl }
 
-and_no_other_function : Moves status.Running (main 6 ∷ []) [] (record (main 0) { kind = kind.Call; locals = 7 ∷ [] } ∷ main 7 ∷ []) → ⊥
+and_no_other_function : Moves status.Running (main 6 ∷ []) [] (new_frame 0 7 kind.Call ∷ main 7 ∷ []) → ⊥
 unfolding runs_on_literals
 and_no_other_function law = let n : ◌≡◌ {A = ℕ} 0 1 = ap top_function law.places in omega (arith, n)
 
 with_no_other_argument : Moves status.Running (main 6 ∷ []) [] (work 0 8 kind.Call ∷ main 7 ∷ []) → ⊥
 unfolding runs_on_literals
-with_no_other_argument law = let n : ◌≡◌ {A = ℕ} 8 7 = ap (λ (arguments : List ℕ). slice_index arguments 0) law.arguments in omega (arith, n)
+with_no_other_argument law = let n : ◌≡◌ {A = ℕ} 8 7 = ap (top_local 0) law.arguments in omega (arith, n)
+
+and_0_in_its_other_locals : Moves status.Running (main 6 ∷ []) [] (record (work 0 7 kind.Call) { locals = 7 ∷ 7 ∷ 0 ∷ 0 ∷ 0 ∷ 0 ∷ 0 ∷ 0 ∷ [] } ∷ main 7 ∷ []) → ⊥
+unfolding runs_on_literals
+and_0_in_its_other_locals law = let n : ◌≡◌ {A = ℕ} 7 0 = ap (top_local 1) law.arguments in omega (arith, n)
+
+in_the_last_too : Moves status.Running (main 6 ∷ []) [] (record (work 0 7 kind.Call) { locals = 7 ∷ 0 ∷ 0 ∷ 0 ∷ 0 ∷ 0 ∷ 0 ∷ 5 ∷ [] } ∷ main 7 ∷ []) → ⊥
+unfolding runs_on_literals
+in_the_last_too law = let n : ◌≡◌ {A = ℕ} 5 0 = ap (top_local 7) law.arguments in omega (arith, n)
 
 at_no_other_statement : Moves status.Running (main 6 ∷ []) [] (work 1 7 kind.Call ∷ main 7 ∷ []) → ⊥
 unfolding runs_on_literals
@@ -184,7 +197,10 @@ a_handler_is_called : Moves status.Ending [] (what.HandlerRun 1 4 ∷ []) (work 
 a_handler_is_called = record { places = refl; arguments = refl }
 
 with_its_argument : Moves status.Ending [] (what.HandlerRun 1 4 ∷ []) (work 0 0 kind.Handler ∷ []) → ⊥
-with_its_argument law = let n : ◌≡◌ {A = ℕ} 0 4 = ap (λ (arguments : List ℕ). slice_index arguments 0) law.arguments in omega (arith, n)
+with_its_argument law = let n : ◌≡◌ {A = ℕ} 0 4 = ap (top_local 0) law.arguments in omega (arith, n)
+
+a_handler_has_0_in_its_other_locals : Moves status.Ending [] (what.HandlerRun 1 4 ∷ []) (record (work 0 4 kind.Handler) { locals = 4 ∷ 4 ∷ 0 ∷ 0 ∷ 0 ∷ 0 ∷ 0 ∷ 0 ∷ [] } ∷ []) → ⊥
+a_handler_has_0_in_its_other_locals law = let n : ◌≡◌ {A = ℕ} 4 0 = ap (top_local 1) law.arguments in omega (arith, n)
 
 its_statements_are_executed : Moves status.Running (work 0 4 kind.Handler ∷ []) (what.Emit 4 ∷ []) (work 1 4 kind.Handler ∷ [])
 unfolding runs_on_literals

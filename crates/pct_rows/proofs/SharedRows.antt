@@ -1,16 +1,17 @@
 -- The law of what the threads of a process share: made steps that keep it, and made steps that do not. Each step that does not differs from
 -- one that does in one thing, and has the name of the sentence that it breaks.
-use Rattle.pct_names.proofs.Names.{[], ap, arith, Bool, false, ForkHandlers, is_none, length, List, new_frame, NextStatement, None, Option}
-use Rattle.pct_names.proofs.Names.{refl, Running, SharedState, slice_index, Some, StatementIn, Status, Stmt, sym, true, What, ℕ, ◌∷◌, ◌≡◌}
+use Rattle.pct_names.proofs.Names.{[], ap, arith, false, ForkHandlers, is_none, length, List, new_frame, new_thread, NextStatement}
+use Rattle.pct_names.proofs.Names.{None, Option, refl, Running, SharedState, slice_index, Some, StatementIn, Status, Stmt, sym, true, What}
+use Rattle.pct_names.proofs.Names.{ℕ, ◌∷◌, ◌≡◌}
 use Rattle.std.proofs.lemmas.Bool.{true≢false}
 use Rattle.pct_model.specs.declared.event.Caller.TheVariants as caller
 use Rattle.pct_model.specs.declared.event.What.TheVariants as what
 use Rattle.pct_model.specs.declared.state.FrameKind.TheVariants as kind
 use Rattle.pct_model.specs.declared.state.Status.TheVariants as status
 use Rattle.pct_model.specs.declared.statement.Dest.TheVariants as destination
-use Rattle.pct_model.specs.declared.statement.Operand.TheVariants as operand
 use Rattle.pct_model.specs.declared.statement.Stmt.TheVariants as statement
-use Rattle.pct_laws.specs.SharedLaw.{ChangesShared}
+use Rattle.pct_laws.specs.SharedLaw.{takes_above_0, ChangesShared}
+use Rattle.pct_laws.specs.ThreadSteps.{ThreadStep}
 
 -- ---- steps of thread 2
 
@@ -50,6 +51,33 @@ by_one law = let n : ◌≡◌ {A = ℕ} 5 4 = ap (λ (counts : List ℕ). slice
 
 a_wait_takes_one : Step (what.Taken 0 ∷ []) (status.InSem 0) (statement.SemWait 0) (shared (5 ∷ 0 ∷ []) (3 ∷ []) (4 ∷ [])) → ⊥
 a_wait_takes_one law = let n : ◌≡◌ {A = ℕ} 3 2 = ap (λ (counts : List ℕ). slice_index counts 0) law.counts in omega (arith, n)
+
+-- ---- what is taken
+
+-- a step of thread 2 with these events, before which the semaphores have these counts. The law asks nothing of what is there after it
+abbrev takes : List ℕ → List What → ThreadStep
+takes counts events = record {
+  pid = 1;
+  tid = 2;
+  earlier = [];
+  process = record { pid = 1; parent = 0; ended = None; threads = []; shared = shared [] counts [] };
+  before = new_thread 2 false (new_frame 0 0 kind.Start);
+  process_after = record { pid = 1; parent = 0; ended = None; threads = []; shared = shared [] counts [] };
+  after = new_thread 2 false (new_frame 0 0 kind.Start);
+  events = events;
+}
+
+a_count_above_0_is_taken : takes_above_0 (takes (1 ∷ 0 ∷ []) (what.Taken 0 ∷ [])) ≡ true
+a_count_above_0_is_taken = refl
+
+and_not_one_that_is_0 : takes_above_0 (takes (1 ∷ 0 ∷ []) (what.Taken 1 ∷ [])) ≡ false
+and_not_one_that_is_0 = refl
+
+nor_one_that_is_not_there : takes_above_0 (takes (1 ∷ 0 ∷ []) (what.Taken 2 ∷ [])) ≡ false
+nor_one_that_is_not_there = refl
+
+a_post_begins_at_any_count : takes_above_0 (takes (1 ∷ 0 ∷ []) (what.Posted 1 ∷ [])) ≡ true
+a_post_begins_at_any_count = refl
 
 -- ---- what is registered
 

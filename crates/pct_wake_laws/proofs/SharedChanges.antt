@@ -1,10 +1,10 @@
--- What a step makes of the state that its process shares.
-use Rattle.pct_names.proofs.Names.{◌++◌, [], acts_on_request, acts_or, Alt, ap, body_at, Bool, cond, Config, Dest, Entry, false}
-use Rattle.pct_names.proofs.Names.{ForkHandlers, Frame, goes_on, length, List, MAX_FORK_HANDLERS, may_register, nat_lt, next_of}
-use Rattle.pct_names.proofs.Names.{NextStatement, None, NoStatement, Option, Others, others_of, Process, refl, registers_fork, registers_if}
-use Rattle.pct_names.proofs.Names.{Run, run, runs, Script, shared_after, shared_moved, SharedState, Some, StatementIn, Status, Stmt}
-use Rattle.pct_names.proofs.Names.{stop_at, stops_or, subst, sym, Thread, Transition, transition_at, transition_by, true, What, Why, ℕ, ◌∙◌}
-use Rattle.pct_names.proofs.Names.{◌∷◌, ◌≡◌}
+-- What a step makes of the state that its process shares, and that it takes a semaphore only where its count is above 0.
+use Rattle.pct_names.proofs.Names.{◌++◌, [], acts_on_request, acts_or, Alt, and_from, ap, body_at, Bool, cond, Config, Dest, Entry, false}
+use Rattle.pct_names.proofs.Names.{ForkHandlers, Frame, goes_on, length, List, list_all, MAX_FORK_HANDLERS, may_register, nat_lt, next_of}
+use Rattle.pct_names.proofs.Names.{NextStatement, None, NoStatement, Option, Others, others_of, Process, refl, registers_fork}
+use Rattle.pct_names.proofs.Names.{registers_if, Run, run, runs, Script, shared_after, shared_moved, SharedState, slice_index, Some}
+use Rattle.pct_names.proofs.Names.{StatementIn, Status, Stmt, stop_at, stops_or, subst, sym, Thread, Transition, transition_at}
+use Rattle.pct_names.proofs.Names.{transition_by, true, What, Why, ℕ, ◌∙◌, ◌∷◌, ◌≡◌}
 use Rattle.std.proofs.Common.{append-nil, true≢false}
 use Rattle.pct_model.specs.declared.event.Caller.TheVariants as caller
 use Rattle.pct_model.specs.declared.event.What.TheVariants as what
@@ -17,8 +17,8 @@ use Rattle.pct_model.specs.Actions.{without_first}
 use Rattle.pct_laws.specs.ThreadSteps.{ThreadStep}
 use Rattle.pct_laws.specs.AfterAll.{after_all}
 use Rattle.pct_laws.specs.CancelLaw.{is_running}
-use Rattle.pct_laws.specs.SharedLaw.{exits_after, new_exits, new_fork_handlers, ChangesShared, SharedLaw}
-use Rattle.pct_transition_cases.proofs.TransitionCases.{TransitionCase, exit_registered, exit_function_called, fork_registered}
+use Rattle.pct_laws.specs.SharedLaw.{exits_after, new_exits, new_fork_handlers, is_above_0, takes_above_0, ChangesShared, SharedLaw}
+use Rattle.pct_transition_cases.proofs.TransitionCases.{TransitionCase, exit_registered, exit_function_called, fork_registered, sem_taken}
 use Rattle.pct_transition_cases.proofs.TransitionCases.{fork_handler_called}
 use Rattle.pct_thread_invariants.proofs.lift.ChangedThreads.{changed_shared}
 use Rattle.pct_thread_invariants.proofs.lift.EveryProcess.{moves_of_run}
@@ -125,6 +125,12 @@ module _ {passes : ℕ} {body : List Stmt} {shared : SharedState} {t : Thread} {
     fork_handlers = sym (append-nil shared.fork_handlers) ∙ ap (λ (new : List ForkHandlers). shared.fork_handlers ++ new) (sym (agree refl).forks);
   }
 
+  -- it takes a semaphore only where its count is above 0
+  case_above : {next : NextStatement} {s : Status} {o : Transition} → TransitionCase passes body shared t others true next s o → list_all (is_above_0 shared.counts) o.events ≡ true
+  case_above (sem_taken frame n sem above) = and_from (nat_lt 0 (slice_index shared.counts sem)) true (above refl) refl
+  case_above (fork_handler_called next at call is) = of_each_phase (λ (w : What). list_all (is_above_0 shared.counts) (w ∷ []) ≡ true) call.func refl refl refl at.phase
+  case_above _ = refl
+
 -- ---- each step of a run
 
 module _ (script : Script) (config : Config) where
@@ -144,6 +150,15 @@ module _ (script : Script) (config : Config) where
   changes_of_run : EveryStep script config IsLawful
   changes_of_run = every_step script config IsLawful changes_of_step
 
+  above_0_of_step : (before : List Entry) (r : Run) → run script config before ≡ Some r → (e : Entry) (p : Process) (t : Thread) → IsTaken script config r.world e p t → takes_above_0 (step_of script config r p e t) ≡ true
+  above_0_of_step before r is e p t taken = case_above (case_of_step script config r.world p e t (moves_of_run script config before r is e p t taken))
+
+  above_0_of_run : EveryStep script config (λ s. takes_above_0 s ≡ true)
+  above_0_of_run = every_step script config (λ s. takes_above_0 s ≡ true) above_0_of_step
+
   -- every run keeps the law of the shared state
   pub shared_law : (entries : List Entry) → SharedLaw script config entries
-  shared_law entries = record { changes = each_step script config IsLawful changes_of_run entries }
+  shared_law entries = record {
+    changes = each_step script config IsLawful changes_of_run entries;
+    above_0 = each_step script config (λ s. takes_above_0 s ≡ true) above_0_of_run entries;
+  }

@@ -3,7 +3,7 @@ use Rattle.pct_names.proofs.Names.{[], ap, ap₂, body_at, Bool, cond, Config, E
 use Rattle.pct_names.proofs.Names.{moved, next_of, NextStatement, NoStatement, option_and_then, Others, others_of, Process, refl, run, Run}
 use Rattle.pct_names.proofs.Names.{Script, Some, sym, Thread, thread_moved, thread_with, Transition, transition_by, true, ◌∙◌, ◌≡◌}
 use Rattle.std.proofs.lemmas.Bool.{true≢false}
-use Rattle.pct_laws.specs.FrameLaw.{Call, FrameLaw, KeepsOtherFrames, MovesFrames, places, its_calls, StaysInHandler}
+use Rattle.pct_laws.specs.FrameLaw.{Call, FrameLaw, KeepsOtherFrames, MovesFrames, places, its_calls, locals_at_call, StaysInHandler}
 use Rattle.pct_laws.specs.Kept.{ForkKept}
 use Rattle.pct_laws.specs.ThreadSummary.{ThreadSummary}
 use Rattle.pct_transition_cases.proofs.PlacedStatements.{is_placed}
@@ -21,7 +21,7 @@ use Rattle.pct_frame_laws.proofs.frames.BusyChoices.{always_busy}
 use Rattle.pct_frame_laws.proofs.frames.BusyThreads.{any_busy, no_frames}
 use Rattle.pct_frame_laws.proofs.frames.FrameCases.{case_calls, case_leaves, is_idle, LeavesIts}
 use Rattle.pct_frame_laws.proofs.frames.HandlerFrames.{stays_of_run}
-use Rattle.pct_frame_laws.proofs.frames.MovedFrames.{arguments_of, made, moved_arguments, moved_places}
+use Rattle.pct_frame_laws.proofs.frames.MovedFrames.{first_locals, made, moved_locals, moved_places}
 use Rattle.pct_frame_laws.proofs.frames.OtherFrames.{frames_by, others_of_run}
 
 module _ (script : Script) (config : Config) where
@@ -78,9 +78,8 @@ module _ (script : Script) (config : Config) where
     leaves : LeavesIts (body_at script t.frames) p.shared t.frames next t.status o
     leaves = case_leaves config.passes p.shared t others t.frames (is_placed script t.frames) outside busy case
 
-    arguments_are : arguments_of (its_calls script (step_of script config r p e t)) (thread_moved e.tid o t).frames ≡ map (λ (call : Call). call.1) (its_calls script (step_of script config r p e t))
-    arguments_are =
-        ap₂ arguments_of calls_are frames_are ∙ moved_arguments o t ∙ ap (λ (calls : List Call). map (λ (call : Call). call.1) calls) (sym calls_are)
+    arguments_are : first_locals (its_calls script (step_of script config r p e t)) (thread_moved e.tid o t).frames ≡ map locals_at_call (its_calls script (step_of script config r p e t))
+    arguments_are = ap₂ first_locals calls_are frames_are ∙ moved_locals o t ∙ ap (λ (calls : List Call). map locals_at_call calls) (sym calls_are)
 
     frames_of_step : MovesFrames script (step_of script config r p e t)
     frames_of_step = record { places = ap (λ (frames : List Frame). places frames) frames_are ∙ moved_places o t ∙ leaves; arguments = arguments_are }

@@ -1,12 +1,11 @@
 -- What a transition does to the frames of its thread: it puts a frame of a call on top, and leaves all, some or none of those before; a number
 -- that is stored in a local moves no frame.
 use Rattle.pct_names.proofs.Names.{◌++◌, [], ap, at_pc, Dest, Frame, frames_written, length, List, map, moved, None, Option, own_after}
-use Rattle.pct_names.proofs.Names.{OwnAction, refl, slice_index, Some, take, Thread, thread_at, Transition, without_first, written, ℕ, ◌∙◌}
-use Rattle.pct_names.proofs.Names.{◌∷◌, ◌≡◌}
+use Rattle.pct_names.proofs.Names.{OwnAction, refl, Some, take, Thread, thread_at, Transition, without_first, written, ℕ, ◌∙◌, ◌∷◌, ◌≡◌}
 use Rattle.pct_model.specs.declared.state.FrameKind.TheVariants as kind
 use Rattle.pct_model.specs.declared.statement.Dest.TheVariants as destination
 use Rattle.pct_model.specs.declared.transition.OwnAction.TheVariants as own_action
-use Rattle.pct_laws.specs.FrameLaw.{Call, Place, places}
+use Rattle.pct_laws.specs.FrameLaw.{Call, locals_at_call, Place, places}
 
 -- the place of a function that is called
 abbrev pub called : List Call → List Place
@@ -71,14 +70,14 @@ moved_places o t =
 
 -- ---- arguments
 
--- the arguments of the first of some frames, as many as there are calls
-abbrev pub arguments_of : List Call → List Frame → List ℕ
-arguments_of calls frames = map (λ (frame : Frame). slice_index frame.locals 0) (take (length calls) frames)
+-- the locals of the first of some frames, as many as there are calls
+abbrev pub first_locals : List Call → List Frame → List (List ℕ)
+first_locals calls frames = map (λ (frame : Frame). frame.locals) (take (length calls) frames)
 
-own_arguments : (a : Option OwnAction) (t : Thread) → arguments_of (made a) (own_after a t).frames ≡ map (λ (call : Call). call.1) (made a)
+own_locals : (a : Option OwnAction) (t : Thread) → first_locals (made a) (own_after a t).frames ≡ map locals_at_call (made a)
 unfolding own_after
-own_arguments (Some (own_action.Call f a kind)) t = refl
-own_arguments _ t = refl
+own_locals (Some (own_action.Call f a kind)) t = refl
+own_locals _ t = refl
 
-pub moved_arguments : (o : Transition) (t : Thread) → arguments_of (made o.own) (moved o t).frames ≡ map (λ (call : Call). call.1) (made o.own)
-moved_arguments o t = own_arguments o.own _
+pub moved_locals : (o : Transition) (t : Thread) → first_locals (made o.own) (moved o t).frames ≡ map locals_at_call (made o.own)
+moved_locals o t = own_locals o.own _
