@@ -187,7 +187,7 @@ MACHINES = (
             "own_after (Some (own_action.Call f a kind)) t = record t { status = Running; frames = new_frame f a kind ∷ t.frames }",
             "own_after (Some (own_action.Call f a kind)) t = record t { status = Running; frames = new_frame f a kind ∷ without_first t.frames }"),
     Machine("canceled_value_0", "Once", "thread/Ends", "ThreadEnds",
-            "end_value reason.Canceled = 4294967295",
+            "end_value reason.Canceled = PTHREAD_CANCELED",
             "end_value reason.Canceled = 0"),
     Machine("a_new_thread_is_disabled", "CreationLaw", "creations/NewThreads", "World",
             "use Rattle.pct_model.specs.declared.state.State.TheVariants.{Enable}",
