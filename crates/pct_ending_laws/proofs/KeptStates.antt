@@ -12,7 +12,7 @@ use Rattle.pct_laws.specs.Kept.{IsPlainFunction, IsSuspendedInJoin}
 use Rattle.pct_laws.specs.CondLaw.{owners_allow, waits_allow, hand_ons_allow}
 use Rattle.pct_laws.specs.ResultLaw.{KeepsAnswer, StoresResults}
 use Rattle.pct_laws.specs.StatementLaw.{says_statement, suspends_by_call, goes_on_by}
-use Rattle.pct_laws.specs.ValueLaw.{sets_its_value, KeepsThreads}
+use Rattle.pct_laws.specs.ValueLaw.{uses_a_key, sets_its_value, KeepsThreads}
 use Rattle.pct_thread_invariants.proofs.lift.EachAllowed.{each_both}
 use Rattle.pct_ending_laws.specs.EndingLaws.{RunsKeepLaws, StatesAreKept}
 use Rattle.pct_thread_invariants.proofs.exits.RegisteredFunctions.{registered_of_run}
@@ -47,6 +47,7 @@ use Rattle.pct_ending_laws.proofs.results.KeptVariables.{globals_of_run, locals_
 use Rattle.pct_ending_laws.proofs.results.OtherProcesses.{processes_of_run as other_processes_of_run}
 use Rattle.pct_ending_laws.proofs.results.SetValues.{sets_of_run}
 use Rattle.pct_ending_laws.proofs.results.StoredResults.{results_of_run}
+use Rattle.pct_ending_laws.proofs.results.UsedKeys.{uses_of_run}
 use Rattle.pct_ending_laws.proofs.results.ValuesOfThreads.{threads_of_run}
 use Rattle.pct_join_laws.proofs.slots.LawfulCreations.{slots_of_run}
 use Rattle.pct_ending_laws.proofs.steps.CalledFunctions.{each_is_called_of_run}
@@ -117,6 +118,7 @@ every_run_keeps_laws script config entries r is = record {
     answers = each_step script config (KeepsAnswer script) (answers_of_run script config) entries;
   };
   values = record {
+    keys = each_step script config (λ s. uses_a_key script s ≡ true) (uses_of_run script config) entries;
     set = each_step script config (λ s. sets_its_value script s ≡ true) (sets_of_run script config) entries;
     threads = each_step script config KeepsThreads (threads_of_run script config) entries;
     processes = other_processes_of_run script config entries;

@@ -5,5 +5,6 @@ pub mod KeptVariables
 pub mod StoredResults
 pub mod ForkAnswers
 pub mod SetValues
+pub mod UsedKeys
 pub mod ValuesOfThreads
 pub mod OtherProcesses

@@ -3,7 +3,8 @@
 -- the next one begins only if keys are due; a thread ends only if none is due or all passes were made, and then reports how many are due;
 -- and the last thread of a process exits it as it ends (XSH 2.9.5.3, pthread_exit, pthread_key_create). A step changes the
 -- value of a key of its own thread only at pthread_setspecific of this key, as its destructor is called, or as it is deleted.
-use Rattle.std.specs.Prelude.{◌≡◌, ℕ, suc, Bool, true, false, not, ◌&&◌, ◌||◌, List, length, filter, slice_get, nat_eq, nat_lt, nat_le}
+use Rattle.std.specs.Prelude.{◌≡◌, ℕ, suc, Bool, true, false, not, ◌&&◌, ◌||◌, List, length, filter, is_some, slice_get}
+use Rattle.std.specs.Prelude.{nat_eq, nat_lt, nat_le}
 use Rattle.std.specs.List.{range_with_len, list_any, list_all}
 use Rattle.std.specs.Option.{option_map_or}
 use Rattle.pct_model.specs.declared.event.Event.{Event}
@@ -18,7 +19,7 @@ use Rattle.pct_model.specs.declared.state.Status.TheVariants as status
 use Rattle.pct_model.specs.declared.statement.Stmt.TheVariants as statement
 use Rattle.pct_laws.specs.AfterEnd.{begins_exit_with_0}
 use Rattle.pct_model.specs.LineParsing.{is_empty}
-use Rattle.pct_model.specs.Keys.{KeyPlace, key_place, is_due, value_at}
+use Rattle.pct_model.specs.Keys.{KeyPlace, KeyValues, key_place, key_at, value_at}
 use Rattle.pct_laws.specs.FollowedEvents.{are_followed}
 use Rattle.pct_laws.specs.KnownThreads.{reports_end}
 use Rattle.pct_model.specs.NextStatement.{NextStatement, StatementIn, next_of}
@@ -26,6 +27,10 @@ use Rattle.pct_laws.specs.ThreadSteps.{ThreadStep, EachStep}
 use Rattle.pct_model.specs.World.{Thread, Process, value_of}
 
 -- ---- keys
+
+-- the key on a place has a destructor, and a thread with these data has a value of it that is not NULL (XSH pthread_key_create)
+abbrev pub is_due : List KeyPlace → KeyValues → ℕ → Bool
+is_due keys own place = option_map_or (λ key. is_some key.destructor) (key_at keys place) false && not (nat_eq (value_at place own) 0)
 
 -- the number of keys that have a destructor and of which the thread has a value that is not NULL
 abbrev pub count_due : List KeyPlace → Thread → ℕ

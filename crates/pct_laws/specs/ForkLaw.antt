@@ -1,7 +1,7 @@
 -- The law of fork handlers: fork calls those that were registered as it was called: before it makes a process the prepare handlers, the
 -- newest first, and after that the parent handlers, and in the child the child handlers, the oldest first. It makes a process, or fails to,
--- and returns only with none of them left to call (XSH pthread_atfork, fork). That the parent handlers are called also where no process is
--- made is a choice of this host.
+-- and returns only with none of them left to call; a handler that returns leaves the fork as it was (XSH pthread_atfork, fork). That the
+-- parent handlers are called also where no process is made is a choice of this host.
 --
 -- It leaves open whether a handler returns, and what it does.
 use Rattle.std.specs.Prelude.{◌≡◌, ◌≢◌, ◌⊎◌, ℕ, Bool, true, false, List, [], ◌∷◌, length, take, drop, reverse, filter_map, is_some}
@@ -22,6 +22,7 @@ use Rattle.pct_model.specs.NextStatement.{next_of}
 use Rattle.pct_model.specs.StatusKinds.{is_forking}
 use Rattle.pct_model.specs.World.{Thread}
 use Rattle.pct_laws.specs.CancelLaw.{acts_or_stops}
+use Rattle.pct_laws.specs.FrameLaw.{leaves_all}
 use Rattle.pct_laws.specs.ResultLaw.{answer_in, calls_fork}
 use Rattle.pct_laws.specs.ThreadSteps.{ThreadStep, EachStep}
 
@@ -101,6 +102,10 @@ pub record KeepsFork (script : Script) (s : ThreadStep) : Type 0 where
   -- a thread in fork returns from it after it got its answer, and with none left
   pub returned : (fork : ForkAt) → is_forking s.before.status ≡ true → fork_of s.before ≡ Some fork → fork_of s.after ≡ None
       → (left_to_call s.process.shared.fork_handlers fork ≡ []) × (fork.phase ≢ phase.Prepare)
+  -- a thread that is not in fork, and does not call it, keeps its fork, unless it begins to end or to exit its process: so a handler that
+  -- returns leaves the fork as it was at its call
+  pub resumed : is_forking s.before.status ≡ false → calls_fork (next_of script s.before.frames) s.before.status ≡ false
+      → list_any leaves_all s.events ≡ false → fork_of s.after ≡ fork_of s.before
   -- any other step keeps the fork, or ends it
   pub kept : calls_fork (next_of script s.before.frames) s.before.status ≡ false → is_some (answer_in s.events) ≡ false
       → list_any is_handler_call s.events ≡ false → (fork_of s.after ≡ fork_of s.before) ⊎ (fork_of s.after ≡ None)

@@ -1,9 +1,10 @@
--- The law of thread-specific data: pthread_setspecific gives its thread the value of the operand; a new thread has NULL for each key, and
--- the thread of a new process has the values of the thread that forked; a new key has NULL in each thread, and a deleted one leaves NULL;
--- and a step changes no other value of another thread (XSH pthread_setspecific, pthread_key_create, pthread_key_delete, fork). Which values of its own thread a
--- step may change is in Ends.antt.
+-- The law of thread-specific data: a value is set and read of a key that was made and not deleted; pthread_setspecific gives its thread the
+-- value of the operand; a new thread has NULL for each key, and the thread of a new process has the values of the thread that forked; a new
+-- key has NULL in each thread, and a deleted one leaves NULL; and a step changes no other value of another thread (XSH pthread_setspecific,
+-- pthread_getspecific, pthread_key_create, pthread_key_delete, fork). Which values of its own thread a step may change is in Ends.antt.
 use Rattle.std.specs.Prelude.{◌≡◌, ◌≢◌, ℕ, Bool, true, false, not, ◌||◌, List, nat_eq, Option, Some, None}
 use Rattle.std.specs.List.{list_any}
+use Rattle.pct_model.specs.declared.event.Event.{Event}
 use Rattle.pct_model.specs.declared.event.What.{What}
 use Rattle.pct_model.specs.declared.event.What.TheVariants as what
 use Rattle.pct_model.specs.declared.schedule.Config.{Config}
@@ -14,8 +15,24 @@ use Rattle.pct_model.specs.Keys.{key_place, value_at}
 use Rattle.pct_model.specs.NextStatement.{NextStatement, StatementIn, next_of}
 use Rattle.pct_model.specs.World.{Thread, Process, thread_with, value_of}
 use Rattle.pct_laws.specs.CancelLaw.{is_running, acts_or_stops}
+use Rattle.pct_laws.specs.KeyEvents.{has_key}
 use Rattle.pct_laws.specs.ProcessSteps.{EachOtherProcess}
 use Rattle.pct_laws.specs.ThreadSteps.{ThreadStep, EachStep}
+
+-- ---- keys
+
+-- if the next statement is pthread_setspecific or pthread_getspecific, its key was made in the process and not deleted since: with another
+-- one the call is undefined (XSH pthread_getspecific)
+abbrev pub names_a_key : List ℕ → (pid : ℕ) → List Event → NextStatement → Bool
+names_a_key globals pid earlier (StatementIn frame (statement.SetSpecific key v)) = has_key pid (value_of globals frame key) earlier
+names_a_key globals pid earlier (StatementIn frame (statement.GetSpecific d key)) = has_key pid (value_of globals frame key) earlier
+names_a_key globals pid earlier _ = true
+
+-- so it is before the step of a running thread, unless it acts upon a request or its statement is a stop
+abbrev pub uses_a_key : Script → ThreadStep → Bool
+uses_a_key script s =
+    not (is_running s.before.status) || acts_or_stops s.events
+    || names_a_key s.process.shared.globals s.pid s.earlier (next_of script s.before.frames)
 
 -- ---- pthread_setspecific
 
@@ -70,6 +87,7 @@ KeepsProcess s None after = (t : Thread) → thread_with s.tid after ≡ Some t 
 
 -- the law of thread-specific data, of the run of a schedule
 pub record ValueLaw (script : Script) (config : Config) (entries : List Entry) : Type 0 where
+  pub keys : EachStep script config entries (λ s. uses_a_key script s ≡ true)
   pub set : EachStep script config entries (λ s. sets_its_value script s ≡ true)
   pub threads : EachStep script config entries KeepsThreads
   pub processes : EachOtherProcess script config entries KeepsProcess

@@ -84,6 +84,7 @@ all_are_left = record {
   called = All-from_recursion (λ w. EachHandler w (step_to returned [] (in_phase phase.Prepare 3))) [] tt;
   made = λ answers. absurd (false≢true answers);
   returned = λ fork in_fork was none. absurd (false≢true in_fork);
+  resumed = λ outside no_call stays. absurd (false≢true (sym no_call));
   kept = λ no_call no_answer quiet. absurd (false≢true (sym no_call));
 }
 
@@ -175,6 +176,7 @@ returns_with_none_left = record {
   made = λ answers. absurd (false≢true answers);
   returned = λ fork in_fork was none.
       subst (λ (x : ForkAt). (left_to_call registered x ≡ []) × (x.phase ≢ phase.Prepare)) (same_Some (record { phase = phase.Parent; next = 3; length = 3; answer = 0 }) fork was) (refl, λ is. absurd (cc));
+  resumed = λ outside no_call stays. absurd (false≢true (sym outside));
   kept = λ no_call no_answer quiet. inr refl;
 }
 
@@ -188,6 +190,39 @@ nor_with_a_child_handler_left law =
 
 nor_before_the_fork : KeepsFork script (step_to (in_phase phase.Prepare 0) [] returned) → ⊥
 nor_before_the_fork law = (law.returned (record { phase = phase.Prepare; next = 0; length = 3; answer = 0 }) refl refl refl).1 refl
+
+-- ---- the return of a handler
+
+a_handler_returns_to_its_fork : KeepsFork script (step_to (in_handler phase.Prepare 2) [] (in_phase phase.Prepare 2))
+unfolding runs_on_literals
+a_handler_returns_to_its_fork = record {
+  begun = λ calls goes. absurd (false≢true calls);
+  called = All-from_recursion (λ w. EachHandler w (step_to (in_handler phase.Prepare 2) [] (in_phase phase.Prepare 2))) [] tt;
+  made = λ answers. absurd (false≢true answers);
+  returned = λ fork in_fork was none. absurd (false≢true in_fork);
+  resumed = λ outside no_call stays. refl;
+  kept = λ no_call no_answer quiet. inl refl;
+}
+
+not_to_a_call_of_fork : KeepsFork script (step_to (in_handler phase.Prepare 2) [] returned) → ⊥
+unfolding runs_on_literals
+not_to_a_call_of_fork law = none-some (record { phase = phase.Prepare; next = 2; length = 3; answer = 0 }) (law.resumed refl refl refl)
+
+nor_past_another_handler : KeepsFork script (step_to (in_handler phase.Parent 1) [] (in_phase phase.Parent 2)) → ⊥
+unfolding runs_on_literals
+nor_past_another_handler law = let n : ◌≡◌ {A = ℕ} 2 1 = ap left_of (law.resumed refl refl refl) in omega (arith, n)
+
+-- its thread begins to end in it: a step that the law allows
+an_end_ends_the_fork : KeepsFork script (step_to (in_handler phase.Prepare 2) (what.EndingCanceled ∷ []) returned)
+unfolding runs_on_literals
+an_end_ends_the_fork = record {
+  begun = λ calls goes. absurd (false≢true calls);
+  called = All-from_recursion (λ w. EachHandler w (step_to (in_handler phase.Prepare 2) (what.EndingCanceled ∷ []) returned)) (what.EndingCanceled ∷ []) (tt, tt);
+  made = λ answers. absurd (false≢true answers);
+  returned = λ fork in_fork was none. absurd (false≢true in_fork);
+  resumed = λ outside no_call stays. absurd (false≢true (sym stays));
+  kept = λ no_call no_answer quiet. inr refl;
+}
 
 -- a step in a handler changes nothing of its fork
 a_handler_keeps_its_fork : KeepsFork script (step_to (in_handler phase.Parent 1) (what.Emit 5 ∷ []) (in_handler phase.Parent 3)) → ⊥

@@ -8,7 +8,7 @@ use Rattle.pct_model.specs.declared.state.FrameKind.TheVariants as kind
 use Rattle.pct_model.specs.declared.state.Status.TheVariants as status
 use Rattle.pct_model.specs.declared.statement.Operand.TheVariants as operand
 use Rattle.pct_model.specs.declared.statement.Stmt.TheVariants as statement
-use Rattle.pct_laws.specs.Ends.{count_due, each_may_begin, KeepsValue, KeepsValues}
+use Rattle.pct_laws.specs.Ends.{count_due, each_may_begin, is_due, KeepsValue, KeepsValues}
 use Rattle.pct_laws.specs.ThreadSteps.{ThreadStep}
 use Rattle.pct_rows.proofs.ExampleScripts.{smallest}
 use Rattle.pct_rows.proofs.OnLiterals.{checks_on_literals, runs_on_literals}
@@ -62,6 +62,13 @@ keeps s = each_may_begin 4 s
 -- a call that goes on
 abbrev calling : List Frame
 calling = new_frame 3 30 kind.Handler ∷ []
+
+-- the keys that are due, by their places, in a thread with these values: not key 2, which has no destructor
+all_with_a_destructor : map (is_due keys (record { values = 7 ∷ 7 ∷ 7 ∷ 7 ∷ []; in_pass = [] })) (0 ∷ 1 ∷ 2 ∷ 3 ∷ []) ≡ true ∷ false ∷ true ∷ false ∷ []
+all_with_a_destructor = refl
+
+and_none_that_is_NULL : map (is_due keys (record { values = 0 ∷ 0 ∷ []; in_pass = [] })) (0 ∷ 1 ∷ 2 ∷ 3 ∷ []) ≡ false ∷ false ∷ false ∷ false ∷ []
+and_none_that_is_NULL = refl
 
 -- the number of keys that are due: those with a destructor and a value that is not NULL
 due : map (λ values. count_due keys (ending 0 values [])) ([] ∷ (7 ∷ []) ∷ (0 ∷ 7 ∷ []) ∷ (7 ∷ 7 ∷ 0 ∷ []) ∷ (7 ∷ 7 ∷ 7 ∷ []) ∷ []) ≡ 0 ∷ 1 ∷ 0 ∷ 1 ∷ 2 ∷ []

@@ -1,21 +1,27 @@
 -- The law of thread-specific data: made steps that keep it, and made steps that do not. Each step that does not differs from one that does in
 -- one thing, and has the name of the sentence that it breaks.
-use Rattle.pct_names.proofs.Names.{[], ap, arith, codes, false, false≢true, first_process, is_static, IsTrue, List, new_frame, new_thread}
-use Rattle.pct_names.proofs.Names.{None, none-some, Process, refl, same_Some, Script, Some, Stmt, sym, Thread, true, value_at, What, ℕ, ◌∷◌}
-use Rattle.pct_names.proofs.Names.{◌≡◌, ◌≢◌}
+use Rattle.pct_names.proofs.Names.{[], ap, arith, Bool, codes, Event, false, false≢true, first_process, is_static, IsTrue, List, map}
+use Rattle.pct_names.proofs.Names.{new_frame, new_thread, None, none-some, Process, refl, same_Some, Script, Some, Stmt, sym, Thread, true, value_at}
+use Rattle.pct_names.proofs.Names.{What, ℕ, ◌∷◌, ◌≡◌, ◌≢◌}
 use Rattle.pct_model.specs.declared.event.What.TheVariants as what
 use Rattle.pct_model.specs.declared.state.FrameKind.TheVariants as kind
+use Rattle.pct_model.specs.declared.statement.Dest.TheVariants as destination
 use Rattle.pct_model.specs.declared.statement.Operand.TheVariants as operand
 use Rattle.pct_model.specs.declared.statement.Stmt.TheVariants as statement
 use Rattle.pct_model.specs.declared.stop.Why.TheVariants as why
 use Rattle.pct_laws.specs.ThreadSteps.{ThreadStep}
-use Rattle.pct_laws.specs.ValueLaw.{KeepsProcess, KeepsThread, KeepsThreads, sets_its_value}
+use Rattle.pct_laws.specs.ValueLaw.{KeepsProcess, KeepsThread, KeepsThreads, sets_its_value, uses_a_key}
 use Rattle.pct_rows.proofs.OnLiterals.{checks_on_literals, runs_on_literals}
 
--- ---- a script whose `main` sets its value of key 2 to 8
+-- ---- a script whose `main` sets its value of key 2 to 8, emits 5, and gets its value of key 2
 
 abbrev statements : List Stmt
-statements = statement.SetSpecific (operand.Num 2) (operand.Num 8) ∷ statement.Emit (operand.Num 5) ∷ statement.End ∷ []
+statements =
+    statement.SetSpecific (operand.Num 2) (operand.Num 8)
+    ∷ statement.Emit (operand.Num 5)
+    ∷ statement.GetSpecific destination.Drop (operand.Num 2)
+    ∷ statement.End
+    ∷ []
 
 passes : IsTrue (is_static (record { globals = []; mutexes = []; conds = []; sems = []; funcs = record { name = codes "main"; locals = codes "x" ∷ []; body = statements } ∷ [] }))
 unfolding checks_on_literals
@@ -47,6 +53,36 @@ step_to after events others = record {
   after = after;
   events = events;
 }
+
+-- ---- keys
+
+-- an event of thread 2
+abbrev event : What → Event
+event w = record { pid = 1; tid = 2; what = w }
+
+-- a step of thread 1 at a statement of `main`, with these events, after these of thread 2, newest first
+abbrev step_at : ℕ → List What → List What → ThreadStep
+step_at pc events earlier = record (step_to (thread 1 pc 7 7) events (thread 2 0 7 7 ∷ [])) { earlier = map event earlier; before = thread 1 pc 7 7 }
+
+-- the law of a step at each of the statements
+abbrev uses : List What → List What → List Bool
+uses events earlier = map (λ (pc : ℕ). uses_a_key script (step_at pc events earlier)) (0 ∷ 1 ∷ 2 ∷ [])
+
+a_key_that_was_made_is_used : uses [] (what.KeyMade 2 ∷ []) ≡ true ∷ true ∷ true ∷ []
+unfolding runs_on_literals
+a_key_that_was_made_is_used = refl
+
+and_no_other : uses [] (what.KeyMade 1 ∷ []) ≡ false ∷ true ∷ false ∷ []
+unfolding runs_on_literals
+and_no_other = refl
+
+nor_one_that_was_deleted : uses [] (what.KeyGone 2 ∷ what.KeyMade 2 ∷ []) ≡ false ∷ true ∷ false ∷ []
+unfolding runs_on_literals
+nor_one_that_was_deleted = refl
+
+a_stop_uses_none : uses (what.Stopped why.KeyId ∷ []) [] ≡ true ∷ true ∷ true ∷ []
+unfolding runs_on_literals
+a_stop_uses_none = refl
 
 -- ---- pthread_setspecific
 

@@ -7,8 +7,10 @@ use Rattle.pct_names.proofs.Names.{transition_by, true, What, while_called, ℕ,
 use Rattle.pct_model.specs.declared.event.What.TheVariants as what
 use Rattle.pct_model.specs.declared.state.Phase.TheVariants as phase
 use Rattle.pct_laws.specs.ForkLaw.{is_handler_call, CallsHandler, EachHandler, fork_by, fork_of, ForksWithNoneLeft, KeepsFork, left_to_call}
+use Rattle.pct_laws.specs.Kept.{is_in_fork_handler}
 use Rattle.pct_laws.specs.ResultLaw.{answer_in, calls_fork}
 use Rattle.pct_laws.specs.ThreadSteps.{ThreadStep}
+use Rattle.pct_transition_cases.proofs.PlacedStatements.{is_placed}
 use Rattle.pct_thread_invariants.proofs.lift.ChangedThreads.{named_keeps, same_settled}
 use Rattle.pct_thread_invariants.proofs.lift.EveryProcess.{moves_of_run, process_taken}
 use Rattle.pct_thread_invariants.proofs.lift.HandlerEvents.{of_each_phase}
@@ -19,6 +21,7 @@ use Rattle.pct_thread_invariants.proofs.lift.ThreadsAfter.{Moves, mover}
 use Rattle.pct_process_laws.proofs.ForksOfRun.{forks_of_run}
 use Rattle.pct_creation_laws.proofs.forks.ForkSteps.{ForkStep, begins_by, fork_begins, fork_made, fork_returns, fork_stays, fork_step}
 use Rattle.pct_creation_laws.proofs.forks.ForkSteps.{goes_on_by, handler_called, HasNone, has_none}
+use Rattle.pct_creation_laws.proofs.forks.KeptForks.{fork_resumes}
 use Rattle.pct_creation_laws.proofs.forks.LeftHandlers.{first_is_left, none_is_left}
 
 -- where no fork handler is called, the law asks nothing of the events
@@ -63,10 +66,14 @@ module _ (script : Script) (config : Config) where
         named_keeps fork_of (λ t joined pending detached specific s same. same_settled (λ (st : Status). fork_by st t.kept) (λ c m why. refl) s t.status same) o.named (cond (is_live_thread e.tid t) (moved o t) t)
         ∙ ap (λ (b : Bool). fork_of (cond b (moved o t) t)) (mover script config r.world p e t moves).live
 
-    none_kept : HasNone t.status t.kept
-    none_kept =
+    -- it keeps the values of a fork exactly if it is in a fork handler
+    keeps : is_some t.kept ≡ is_in_fork_handler t.status t.frames
+    keeps =
         let it : IsLive p e.tid t = mover script config r.world p e t moves in
-        has_none t.status t.frames t.kept (forks_of_run script config before r is e.pid e.tid t (ap (option_and_then (thread_with e.tid)) (process_taken script config before r is e p t taken) ∙ it.found) it.here).keeps
+        (forks_of_run script config before r is e.pid e.tid t (ap (option_and_then (thread_with e.tid)) (process_taken script config before r is e p t taken) ∙ it.found) it.here).keeps
+
+    none_kept : HasNone t.status t.kept
+    none_kept = has_none t.status t.frames t.kept keeps
 
     -- what the step does to the fork of its thread
     abbrev Steps : Type 0
@@ -139,6 +146,8 @@ module _ (script : Script) (config : Config) where
       called = All-from_recursion _ _ (called_by step);
       made = made_by step;
       returned = λ fork in_fork was none. returned_by step fork in_fork was (sym after_is ∙ none);
+      resumed = λ outside no_call stays.
+          after_is ∙ fork_resumes config.passes p.shared t others (is_placed script t.frames) (case_of_step script config r.world p e t moves) keeps outside no_call stays;
       kept = λ no_call no_answer quiet. elim (kept_by step no_call no_answer quiet) [
         | inl same ↦ inl (after_is ∙ same)
         | inr left ↦ inr (after_is ∙ left)

@@ -73,7 +73,8 @@ module _ (passes : ℕ) (body : List Stmt) (shared : SharedState) (t : Thread) (
 
 -- ---- each step of a run
 
-if_runs : (runs acts set : Bool) → (runs ≡ true → (acts || set) ≡ true) → (not runs || acts || set) ≡ true
+-- what a running thread does, unless it acts or stops
+pub if_runs : (runs acts set : Bool) → (runs ≡ true → (acts || set) ≡ true) → (not runs || acts || set) ≡ true
 if_runs true acts set then = then refl
 if_runs false acts set then = refl
 

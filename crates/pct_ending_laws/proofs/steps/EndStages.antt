@@ -1,7 +1,7 @@
 -- The law of the stages of an end, of a step: what each event of an end begins with.
 use Rattle.pct_names.proofs.Names.{◌&&◌, ◌++◌, [], acts, acts_on_request, acts_or, Alt, and_from, and_parts, ap, ap₂, arith, body_at, Bool}
 use Rattle.pct_names.proofs.Names.{calls_destructor, cond, Config, due_places, end_value, ends_thread, Entry, false, false≢true, filter}
-use Rattle.pct_names.proofs.Names.{Frame, goes_on_ending, is_due, is_empty, is_last, is_left, is_some, Key, key_at, KeyPlace, KeyValues}
+use Rattle.pct_names.proofs.Names.{Frame, goes_on_ending, is_empty, is_last, is_left, is_some, Key, key_at, KeyPlace, KeyValues}
 use Rattle.pct_names.proofs.Names.{left_keys, left_places, length, List, list_all, list_any, map, MAX_KEYS, NamedAction, nat_eq, nat_le}
 use Rattle.pct_names.proofs.Names.{next_of, NextStatement, None, NoStatement, not, number_at, Option, option_and_then, option_map}
 use Rattle.pct_names.proofs.Names.{option_map_or, or_left, or_right, Others, others_of, OwnAction, Process, range_with_len, Reason, refl}
@@ -15,8 +15,8 @@ use Rattle.pct_model.specs.declared.schedule.Alt.TheVariants as alt
 use Rattle.pct_model.specs.declared.state.Status.TheVariants as status
 use Rattle.pct_model.specs.declared.transition.OwnAction.TheVariants as own_action
 use Rattle.pct_laws.specs.AfterEnd.{begins_exit_with_0}
-use Rattle.pct_laws.specs.Ends.{count_due, is_in_pass, none_left, takes_due, reports_left, is_status_ending, is_at_stage, has_run_handlers}
-use Rattle.pct_laws.specs.Ends.{others_have_ended, thread_may_end, each_may_begin}
+use Rattle.pct_laws.specs.Ends.{count_due, is_due, is_in_pass, none_left, takes_due, reports_left, is_status_ending, is_at_stage}
+use Rattle.pct_laws.specs.Ends.{has_run_handlers, others_have_ended, thread_may_end, each_may_begin}
 use Rattle.pct_laws.specs.KnownThreads.{reports_end}
 use Rattle.pct_laws.specs.ThreadSteps.{ThreadStep}
 use Rattle.pct_laws.specs.ThreadSummary.{ThreadSummary}
