@@ -1,5 +1,5 @@
 -- Words and an input have one outcome of an inspection at the most.
-use Rattle.pct_names.proofs.Names.{◌++◌, ap, Bool, code_of_verdict, Config, Entry, Err, false, Fault, first_fault, first_illegal, le-ltb, length, line_text, List}
+use Rattle.pct_names.proofs.Names.{◌++◌, ap, Bool, code_of_verdict, Config, Entry, Err, false, Fault, first_fault, first_illegal, is_some, le-ltb, length, line_text, List}
 use Rattle.pct_names.proofs.Names.{nat_lt, None, none-some, Ok, Option, option_map, refl, refused_input, refused_schedule, refused_script, refused_words, report}
 use Rattle.pct_names.proofs.Names.{Run, run, same_Some, Schedule, Script, Some, some_pair_parts, Spells, subst, sym, true, verdict_of, ℕ, ◌∙◌, ◌≡◌, ◌≤◌}
 use Rattle.std.proofs.lemmas.Bool.{lt-ltb, true≢false}
@@ -117,6 +117,13 @@ module _ (words : List (List ℕ)) (input : List ℕ) where
         (shown_as prefix.script asked prefix.config prefix.entries prefix.illegal (Some prefix.after) is prefix.read prefix.illegal_is prefix.is_run
         ∙ ap (option_map (λ (s : List ℕ). (code_after prefix, s ++ notice prefix.illegal))) view_is ∙ these code_is text_is)
 
+    -- the code of a drawing is that after the run
+    drawn_as : (prefix : FollowsPrefix input) → drawn_of prefix.script (prefix_of (prefix_in input)) ≡ Some (code_after prefix)
+    drawn_as prefix =
+        ap (drawn_of prefix.script) prefix.read
+        ∙ ap (λ (n : Option ℕ). code_of_run prefix.script prefix.config prefix.entries n (run prefix.script prefix.config (followed n prefix.entries))) prefix.illegal_is
+        ∙ ap (code_of_run prefix.script prefix.config prefix.entries prefix.illegal) prefix.is_run
+
     drew : (f : Form) → is_drawn f ≡ true → inspection_asked words ≡ Some (inspection.Show (view.Steps f)) → (prefix : FollowsPrefix input) → code ≡ code_after prefix → Found code text
     drew form.Trace drawn is prefix code_is = absurd (true≢false (sym drawn))
     drew form.Lanes drawn is prefix code_is = Drew
@@ -130,12 +137,10 @@ module _ (words : List (List ℕ)) (input : List ℕ) where
         (drawn_as prefix ∙ ap (λ (n : ℕ). Some n) (sym code_is))
         (ap asks_to_draw is)
 
-    -- the code of a drawing is that after the run
-    drawn_as : (prefix : FollowsPrefix input) → drawn_of prefix.script (prefix_of (prefix_in input)) ≡ Some (code_after prefix)
-    drawn_as prefix =
-        ap (drawn_of prefix.script) prefix.read
-        ∙ ap (λ (n : Option ℕ). code_of_run prefix.script prefix.config prefix.entries n (run prefix.script prefix.config (followed n prefix.entries))) prefix.illegal_is
-        ∙ ap (code_of_run prefix.script prefix.config prefix.entries prefix.illegal) prefix.is_run
+    -- with `continue` no view is shown
+    none_shown : (script : Script) (config : Config) (entries : List Entry) (seed : ℕ) (illegal : Option ℕ) (after : Option Run) → by_run (Some (inspection.Continue seed)) input script config entries illegal after ≡ None
+    none_shown script config entries seed illegal None = refl
+    none_shown script config entries seed illegal (Some r) = refl
 
     -- a run that goes on
     went_on : Continues words input code text → Found code text
@@ -154,11 +159,6 @@ module _ (words : List (List ℕ)) (input : List ℕ) where
           told_is = c.report_is;
           text_is = c.text_is ∙ ap (λ (n : Option ℕ). c.report_text ++ notice n) (sym c.illegal_is);
         })
-
-    -- with `continue` no view is shown
-    none_shown : (script : Script) (config : Config) (entries : List Entry) (seed : ℕ) (illegal : Option ℕ) (after : Option Run) → by_run (Some (inspection.Continue seed)) input script config entries illegal after ≡ None
-    none_shown script config entries seed illegal None = refl
-    none_shown script config entries seed illegal (Some r) = refl
 
     found : IsInspected words input code text → Found code text
     found (outcome.WordsRefused o) = Refused (checked false (nat_lt 16777216 (length input)) (first_fault (script_in input)) o.refused refl refl ∙ these o.code_is o.text_is)
