@@ -1,7 +1,7 @@
 -- A transition that fits a process: each of its parts fits the process as the parts before it left it.
 use Rattle.pct_names.proofs.Names.{◌&&◌, [], All, All-head, and_from, ap, arith, Bool, cases_eq, cases_lt, cond, false, filter, find}
-use Rattle.pct_names.proofs.Names.{get_or_past, holds_slot, IfSome, inl, inr, is_ended_status, is_live_thread, length, length-map, List}
-use Rattle.pct_names.proofs.Names.{map, moved, named_after, NamedAction, nat_eq, None, none-some, Option, option_and_then, refl, same_Some}
+use Rattle.pct_names.proofs.Names.{get_or_past, has_valid_id, holds_slot, IfSome, inl, inr, is_ended_status, length, length-map, List, map}
+use Rattle.pct_names.proofs.Names.{moved, named_after, NamedAction, nat_eq, None, none-some, Option, option_and_then, refl, same_Some}
 use Rattle.pct_names.proofs.Names.{shared_moved, SharedAction, SharedState, slice_get, slice_get-get_or, slice_set, slot_of, Some, subst}
 use Rattle.pct_names.proofs.Names.{suc, sym, Thread, Transition, true, zero, ℕ, ◌∙◌, ◌∷◌, ◌≡◌, ◌≢◌, ◌≤◌}
 use Rattle.std.proofs.Common.{ne_eqb, eq-eqb}
@@ -62,7 +62,7 @@ module _ (slot : ℕ) (o : Transition) (p : ProcessData) (needs : Makes slot o p
   own_is_all : after ≡ map (slot_changed (on_thread t.id (moved o))) p.slots
   own_is_all =
       let placed : IsOnSlot (length p.slots) slot t = All-head (IsOnSlot (length p.slots) slot) t [] (needs.on_slots slot s alone) in
-      let live : is_live_thread t.id t ≡ true = and_from (nat_eq t.id t.id) (holds_slot t) (eq-eqb t.id t.id refl) placed.holds in
+      let live : has_valid_id t.id t ≡ true = and_from (nat_eq t.id t.id) (holds_slot t) (eq-eqb t.id t.id refl) placed.holds in
       on_slot-here slot p.slots s alone change
       ∙ sym (ap (λ (b : Bool). slice_set p.slots slot (record { made = made; here = filter holds_slot (cond b (moved o t) t ∷ []) })) live)
       ∙ sym (on_slot-here slot p.slots s alone (slot_changed (on_thread t.id (moved o))))

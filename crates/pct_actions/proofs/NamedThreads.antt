@@ -1,9 +1,9 @@
 -- The slots of a process after a change of the threads that are named, and after a key was deleted.
 use Rattle.pct_names.proofs.Names.{◌&&◌, ◌-◌, ◌<◌, [], All, All-head, and_from, ap, arith, Bool, Broadcast, cases_lt, cond, false}
-use Rattle.pct_names.proofs.Names.{false≢true, filter, holds_slot, IfSome, inl, inr, is_ended_status, is_live_thread, is_some}
-use Rattle.pct_names.proofs.Names.{is_waiting_on, key_place, KeyValues, length, List, map, map-id, named_after, NamedAction, nat_eq, None}
-use Rattle.pct_names.proofs.Names.{not, Option, option_and_then, option_map, option_map_or, refl, set-get_or, Signalled, slot_of, Some}
-use Rattle.pct_names.proofs.Names.{subst, sym, Thread, true, unblocked, without_value, ◌||◌, ℕ, ◌∙◌, ◌∷◌, ◌≡◌, ◌≤◌}
+use Rattle.pct_names.proofs.Names.{false≢true, filter, has_valid_id, holds_slot, IfSome, inl, inr, is_ended_status, is_some, is_waiting_on}
+use Rattle.pct_names.proofs.Names.{key_place, KeyValues, length, List, map, map-id, named_after, NamedAction, nat_eq, None, not, Option}
+use Rattle.pct_names.proofs.Names.{option_and_then, option_map, option_map_or, refl, set-get_or, Signalled, slot_of, Some, subst, sym}
+use Rattle.pct_names.proofs.Names.{Thread, true, unblocked, without_value, ◌||◌, ℕ, ◌∙◌, ◌∷◌, ◌≡◌, ◌≤◌}
 use Rattle.std.proofs.Common.{mod-lt}
 use Rattle.pct_model.specs.declared.transition.NamedAction.TheVariants as named_action
 use Rattle.pct_threads.specs.Slots.{Held, Slot, unused, has_id, is_reclaimable, after_detach, after_change, with_change, freed}
@@ -71,7 +71,7 @@ module _ (row : KeyValues) (id : ℕ) (h : Held) (named : nat_eq h.id id ≡ tru
   abbrev t : Thread
   t = with_specific row (thread_of h)
 
-  live : is_live_thread id t ≡ true
+  live : has_valid_id id t ≡ true
   live = and_from (nat_eq h.id id) (holds_slot t) named holds
 
   joined_here : is_ended_status h.thread.status ≡ true → [] ≡ filter holds_slot (named_after (Some (named_action.EndJoin id)) t ∷ [])

@@ -13,7 +13,7 @@ use pct_threads::Threads;
 /// Makes the change of an action, if there is one, in the threads that it names. Whom a thread joins is known by its status, and the
 /// values of a key are deleted with it.
 #[tactic(auto, unfolding(crate::specs::SharedChanges::named_on))]
-pub(crate) fn name(threads: &mut Threads, action: Option<NamedAction>)
+pub(crate) fn act_on_named(threads: &mut Threads, action: Option<NamedAction>)
     requires { NameFits action threads.old }
     ensures table { threads.new ≡ named_on action threads.old }
     ensures length { length threads.new ≡ length threads.old }

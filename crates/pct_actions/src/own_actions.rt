@@ -28,7 +28,7 @@ pub(crate) fn move_own(threads: &mut Threads, slot: u32, transition: &Transition
 {
     go_on(threads, slot, transition.next);
     write_locals(threads, slot, &transition.writes);
-    act(threads, slot, transition.own);
+    act_on_thread(threads, slot, transition.own);
     settle(threads, slot);
 }
 
@@ -56,7 +56,7 @@ fn write_locals(threads: &mut Threads, slot: u32, writes: &UpToThree<(Dest, u32)
 
 // Makes the thread's own action, if it has one.
 #[tactic(auto, unfolding(pct_model::specs::Actions::own_after))]
-fn act(threads: &mut Threads, slot: u32, action: Option<OwnAction>)
+fn act_on_thread(threads: &mut Threads, slot: u32, action: Option<OwnAction>)
     requires occupied { is_occupied_at threads.old slot ≡ true }
     requires fits { (held : Held) → held_at threads.old slot ≡ Some held → Fits (length held.frames) (length held.thread.handlers) held.thread.pass action }
     ensures { threads.new ≡ on_own slot (own_after action) threads.old }

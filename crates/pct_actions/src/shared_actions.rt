@@ -7,7 +7,7 @@ ghost use Rattle.pct_actions.specs.ProcessChanges.{deleted_key, SharedFits};
 ghost use Rattle.pct_actions.specs.ProcessParts.{others_made, OthersFit};
 ghost use Rattle.pct_actions.specs.SharedChanges.{forgotten};
 
-use crate::named_threads::name;
+use crate::named_threads::act_on_named;
 use pct_keys::key_place;
 use pct_model::{SharedAction, Transition};
 use pct_process::ProcessState;
@@ -19,7 +19,7 @@ pub(crate) fn act_on_others(process: &mut ProcessState, transition: &Transition)
     ensures { process.new ≡ others_made transition.now process.old }
 {
     act_on_shared(process, transition.shared);
-    name(&mut process.threads, transition.named);
+    act_on_named(&mut process.threads, transition.named);
 }
 
 // Makes the change of an action, if there is one, in what the threads share.

@@ -1,9 +1,9 @@
 -- After every run the keys of a process are those that its events report, and a destructor is called with a value that is not NULL, for a
 -- key that was made and not deleted.
 use Rattle.pct_names.proofs.Names.{◌&&◌, ◌+◌, ◌++◌, ◌<◌, [], and_from, ap, arith, body_at, Bool, changed, child_of, cond, Config, Entry}
-use Rattle.pct_names.proofs.Names.{eqb-false, Event, event_of, false, false≢true, if_number, is_none, is_some, Key, key_at, key_place}
-use Rattle.pct_names.proofs.Names.{key_with, KeyPlace, length, List, list_any, map, MAX_KEYS, nat_eq, new_keys, next_key, next_of}
-use Rattle.pct_names.proofs.Names.{NextStatement, no_keys, None, none-some, not, Option, option_and_then, option_map_or, Others, others_of}
+use Rattle.pct_names.proofs.Names.{Environment, environment_of, eqb-false, Event, event_of, false, false≢true, if_number, is_none, is_some}
+use Rattle.pct_names.proofs.Names.{Key, key_at, key_place, key_with, KeyPlace, length, List, list_any, map, MAX_KEYS, nat_eq, new_keys}
+use Rattle.pct_names.proofs.Names.{next_key, next_of, NextStatement, no_keys, None, none-some, not, Option, option_and_then, option_map_or}
 use Rattle.pct_names.proofs.Names.{Process, refl, replicate, reverse, Script, set, shared_after, shared_moved, SharedState, slice_get}
 use Rattle.pct_names.proofs.Names.{slice_get-get_or, slice_get_within, Some, Status, Stmt, subst, suc, sym, Thread, Transition}
 use Rattle.pct_names.proofs.Names.{transition_by, true, value_at, value_of, What, with_key, without_key, World, zero, ◌||◌, ℕ, ◌∙◌, ◌∷◌}
@@ -174,9 +174,9 @@ module _ (keys : List KeyPlace) (reported : ℕ → Bool) (fits : AreReported ke
       ∙ number_deleted k n (key_at keys (key_place n)) (nat_eq (key_place k) (key_place n)) (λ same. (on.0, ap (key_at keys) (sym (eqb-true (key_place k) (key_place n) same)) ∙ on.1, on.2)) (other_number k n)
       ∙ ap (λ (b : Bool). not (nat_eq k n) && b) (fits n)
 
-module _ (script : Script) (passes : ℕ) (body : List Stmt) (shared : SharedState) (t : Thread) (others : Others) (kept : KeysKept script shared.keys) (e : Entry) where
+module _ (script : Script) (passes : ℕ) (body : List Stmt) (shared : SharedState) (t : Thread) (environment : Environment) (kept : KeysKept script shared.keys) (e : Entry) where
   -- the keys after a transition
-  case_reported : (reported : ℕ → Bool) → AreReported shared.keys reported → {next : NextStatement} {s : Status} {o : Transition} → TransitionCase passes body shared t others true next s o
+  case_reported : (reported : ℕ → Bool) → AreReported shared.keys reported → {next : NextStatement} {s : Status} {o : Transition} → TransitionCase passes body shared t environment true next s o
       → AreReported (shared_moved o shared).keys (λ n. after_own (has n) (map (event_of e) (reverse o.events)) (reported n))
   unfolding shared_after
   case_reported reported fits (key_made frame result key destructor k among) = made_reported shared.keys reported fits script kept k destructor (among refl)
@@ -185,7 +185,7 @@ module _ (script : Script) (passes : ℕ) (body : List Stmt) (shared : SharedSta
   case_reported reported fits _ = fits
 
   -- the law after the events of a transition
-  case_lawful : (earlier : List Event) → AreReported shared.keys (λ n. has_key e.pid n earlier) → {next : NextStatement} {s : Status} {o : Transition} → TransitionCase passes body shared t others true next s o
+  case_lawful : (earlier : List Event) → AreReported shared.keys (λ n. has_key e.pid n earlier) → {next : NextStatement} {s : Status} {o : Transition} → TransitionCase passes body shared t environment true next s o
       → each allows earlier ≡ true → each allows (map (event_of e) (reverse o.events) ++ earlier) ≡ true
   case_lawful earlier fits (destructor_called next k f key none found named left) law =
       let not_null : nat_eq (value_at (key_place k) t.specific) 0 ≡ false = left_has_value script shared.keys kept t.specific k (left_key_of shared.keys t.specific k (left refl)) in
@@ -219,22 +219,22 @@ module _ (script : Script) (config : Config) where
     abbrev o : Transition
     o = transition_by script config w p t e.alt
 
-    abbrev others : Others
-    others = others_of config.slots w p t.id
+    abbrev environment : Environment
+    environment = environment_of config.slots w p t.id
 
     -- the case of its transition
-    its_case : TransitionCase config.passes (body_at script t.frames) p.shared t others true (next_of script t.frames) t.status o
-    its_case = case_of config.passes (body_at script t.frames) p.shared t others true e.alt (next_of script t.frames) t.status (λ offered. known.1.offered)
+    its_case : TransitionCase config.passes (body_at script t.frames) p.shared t environment true (next_of script t.frames) t.status o
+    its_case = case_of config.passes (body_at script t.frames) p.shared t environment true e.alt (next_of script t.frames) t.status (λ offered. known.1.offered)
 
     -- its keys after the transition
     fit_after : (reported : ℕ → Bool) → Fit p reported → Fit (changed e.tid o p) (λ n. after_own (has n) (map (event_of e) (reverse o.events)) (reported n))
     fit_after reported fits =
         subst (λ (s : SharedState). AreReported s.keys (λ n. after_own (has n) (map (event_of e) (reverse o.events)) (reported n))) (sym (changed_shared e.tid o p))
-        (case_reported script config.passes (body_at script t.frames) p.shared t others known.0.keys e reported fits its_case)
+        (case_reported script config.passes (body_at script t.frames) p.shared t environment known.0.keys e reported fits its_case)
 
     -- the law after the transition
     lawful_after : (earlier : List Event) → Fit p (λ n. has_key e.pid n earlier) → each allows earlier ≡ true → each allows (map (event_of e) (reverse o.events) ++ earlier) ≡ true
-    lawful_after earlier fits = case_lawful script config.passes (body_at script t.frames) p.shared t others known.0.keys e earlier fits its_case
+    lawful_after earlier fits = case_lawful script config.passes (body_at script t.frames) p.shared t environment known.0.keys e earlier fits its_case
 
   -- each step keeps it that the keys of a process are those that are reported
   keys_rule : IsProcessRule has Fit script config MovesIn

@@ -1,13 +1,15 @@
 -- What a thread sees of the others depends only on what is kept of the state.
-use Rattle.pct_names.proofs.Names.{◌&&◌, ◌+◌, ◌++◌, ◌<◌, [], ap, body_at, Bool, by_slot, choices_at, choices_of, cond, Config, false}
-use Rattle.pct_names.proofs.Names.{family_among, family_of, filter, flat_map, flat_map-map, free_ids, holds_slot, is_free, is_joined_by_one}
-use Rattle.pct_names.proofs.Names.{is_joining, is_last, is_live_thread, is_on, is_unreaped, length, List, list_all, list_any, map, nat_eq}
-use Rattle.pct_names.proofs.Names.{next_id, next_of, not, option_and_then, Others, others_of, Process, range_with_len, refl, Relative}
+use Rattle.pct_names.proofs.Names.{◌&&◌, ◌+◌, ◌++◌, ◌<◌, [], ap, body_at, Bool, by_slot, choices_at, choices_of, cond, Config, Environment}
+use Rattle.pct_names.proofs.Names.{environment_of, false, family_among, family_of, filter, flat_map, flat_map-map, free_ids, has_valid_id}
+use Rattle.pct_names.proofs.Names.{holds_slot, is_free, is_joined_by_one, is_joining, is_last, is_on, is_unreaped, length, List, list_all}
+use Rattle.pct_names.proofs.Names.{list_any, map, nat_eq, next_id, next_of, not, option_and_then, Process, range_with_len, refl, Relative}
 use Rattle.pct_names.proofs.Names.{Script, slot_of, suc, sym, Thread, true, waiters_among, with_id, World, zero, ◌||◌, ℕ, ◌∙◌, ◌∷◌, ◌≡◌}
 use Rattle.std.proofs.Common.{eqb-true, eq-eqb}
 use Rattle.pct_engine_laws.specs.Seen.{SeenSlot, seen_slot, seen_process, seen, threads_on, is_last_in, relative_in, family_in}
-use Rattle.pct_engine_laws.specs.SeenSteps.{thread_on, thread_with, is_joined_in, is_empty, new_id_on, new_ids_from, others_in, choices_in}
-use Rattle.pct_engine_laws.proofs.ListFacts.{find_agree, find-filter, any_agree, any-filter, any-flat_map, any_swap, any_and, all_none, map-map, map-filter}
+use Rattle.pct_engine_laws.specs.SeenSteps.{thread_on, thread_with, is_joined_in, is_empty, new_id_on, new_ids_from, environment_in}
+use Rattle.pct_engine_laws.specs.SeenSteps.{choices_in}
+use Rattle.pct_engine_laws.proofs.ListFacts.{find_agree, find-filter, any_agree, any-filter, any-flat_map, any_swap, any_and, all_none}
+use Rattle.pct_engine_laws.proofs.ListFacts.{map-map, map-filter}
 use Rattle.pct_engine_laws.proofs.IndexedLists.{by_index, item_by_index, index_among}
 use Rattle.pct_engine_laws.proofs.ThreadChanges.{slot_below}
 
@@ -31,7 +33,7 @@ found_by slots tid t false e = and_false (is_on slots (slot_of slots tid) t && h
 pub thread_found : (slots tid : ℕ) (threads : List Thread) → thread_on tid (seen_slot slots threads (slot_of slots tid)) ≡ with_id tid threads
 thread_found slots tid threads =
     find-filter (λ (t : Thread). nat_eq t.id tid) (λ t. is_on slots (slot_of slots tid) t && holds_slot t) threads
-    ∙ find_agree (λ t. (is_on slots (slot_of slots tid) t && holds_slot t) && nat_eq t.id tid) (is_live_thread tid) (λ t. found_by slots tid t (nat_eq t.id tid) refl) threads
+    ∙ find_agree (λ t. (is_on slots (slot_of slots tid) t && holds_slot t) && nat_eq t.id tid) (has_valid_id tid) (λ t. found_by slots tid t (nat_eq t.id tid) refl) threads
 
 -- the thread with an id
 pub thread_seen : (slots tid : ℕ) (threads : List Thread) → 0 < slots → thread_with slots tid (by_index (seen_slot slots threads) slots) ≡ with_id tid threads
@@ -112,9 +114,9 @@ pub family_seen : (slots pid : ℕ) (w : World) → family_of w pid ≡ family_i
 family_seen slots pid w = ap (λ (relatives : List Relative). family_among (length w.processes) relatives pid) (sym (map-map relative_in (seen_process slots) (filter is_unreaped w.processes)))
 
 -- what the thread with an id of a process sees of the others
-pub others_seen : (slots tid : ℕ) (w : World) (p : Process) → 0 < slots → others_of slots w p tid ≡ others_in slots (family_in (seen slots w) p.pid) (seen_process slots p).slots tid
-unfolding others_of others_in
-others_seen slots tid w p some =
+pub environment_seen : (slots tid : ℕ) (w : World) (p : Process) → 0 < slots → environment_of slots w p tid ≡ environment_in slots (family_in (seen slots w) p.pid) (seen_process slots p).slots tid
+unfolding environment_of environment_in
+environment_seen slots tid w p some =
     let threads : List Thread = p.threads in
     let rows : List SeenSlot = by_index (seen_slot slots threads) slots in
     let named : (id : ℕ) → with_id id threads ≡ thread_with slots id rows = λ id. sym (thread_seen slots id threads some) in
@@ -128,4 +130,4 @@ others_seen slots tid w p some =
 
 -- the choices of a thread of a process
 pub choices_seen : (script : Script) (config : Config) (w : World) (p : Process) (t : Thread) → 0 < config.slots → choices_of script config w p t ≡ choices_in script config.slots (family_in (seen config.slots w) p.pid) (seen_process config.slots p) t
-choices_seen script config w p t some = ap (λ (others : Others). choices_at (body_at script t.frames) p.shared t others (next_of script t.frames) t.status) (others_seen config.slots t.id w p some)
+choices_seen script config w p t some = ap (λ (environment : Environment). choices_at (body_at script t.frames) p.shared t environment (next_of script t.frames) t.status) (environment_seen config.slots t.id w p some)

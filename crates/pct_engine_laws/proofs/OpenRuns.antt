@@ -1,11 +1,10 @@
 -- A run goes on by an entry exactly if its verdict is `Open` and the entry is legal: a legal entry needs a run that was not
 -- stopped, and a process that has not ended with a thread that is ready.
 use Rattle.pct_names.proofs.Names.{◌++◌, ◌<◌, [], Alt, and_from, and_parts, ap, arith, Bool, Budget, cases_Bool, choices_of, Complete, cond}
-use Rattle.pct_names.proofs.Names.{Config, Deadlock, Entry, eqb-false, false, false≢true, has_ended, has_ready, holds_slot, inl, inr}
-use Rattle.pct_names.proofs.Names.{is_enabled, is_live_process, is_live_thread, is_none, is_ready, is_some, IsLegalStep, Legal, length}
-use Rattle.pct_names.proofs.Names.{List, list_all, list_any, nat_eq, None, not, not-true, offers, Open, Option, Process, refl, Run, run}
-use Rattle.pct_names.proofs.Names.{Script, Some, step, Successor, sym, true, Verdict, verdict_by, verdict_of, Why, World, ℕ, ◌↔◌, ◌∙◌, ◌∷◌}
-use Rattle.pct_names.proofs.Names.{◌≡◌}
+use Rattle.pct_names.proofs.Names.{Config, Deadlock, Entry, eqb-false, false, false≢true, has_ended, has_ready, has_valid_id, holds_slot}
+use Rattle.pct_names.proofs.Names.{inl, inr, is_enabled, is_live_process, is_none, is_ready, is_some, IsLegalStep, Legal, length, List}
+use Rattle.pct_names.proofs.Names.{list_all, list_any, nat_eq, None, not, not-true, offers, Open, Option, Process, refl, Run, run, Script}
+use Rattle.pct_names.proofs.Names.{Some, step, Successor, sym, true, Verdict, verdict_by, verdict_of, Why, World, ℕ, ◌↔◌, ◌∙◌, ◌∷◌, ◌≡◌}
 use Rattle.std.proofs.lemmas.Bool.{eqb-true}
 use Rattle.pct_model.proofs.LegalSteps.{step_legal, some_step_legal, legal_steps}
 use Rattle.pct_engine_laws.specs.RunLaws.{IsLegalWhileOpen}
@@ -24,7 +23,7 @@ legal_ready script config w e legal =
     let t = legal.thread in
     any_found (is_live_process e.pid) (has_ready script config w) w.processes p legal.live
     (λ live. and_from (not (has_ended p)) (list_any (is_ready script config w p) p.threads) (and_parts (nat_eq p.pid e.pid) (not (has_ended p)) live).1
-    (any_found (is_live_thread e.tid) (is_ready script config w p) p.threads t legal.holds
+    (any_found (has_valid_id e.tid) (is_ready script config w p) p.threads t legal.holds
     (λ named. and_from (holds_slot t) (is_enabled (choices_of script config w p t)) (and_parts (nat_eq t.id e.tid) (holds_slot t) named).1 (offers_enabled (choices_of script config w p t) e.alt legal.offered))))
 
 -- a process with a thread that is ready has not ended

@@ -1,17 +1,17 @@
 -- The numbers of a run that is limited in its entries: of its processes, threads and keys, and those in its entries.
 use Rattle.pct_names.proofs.Names.{◌&&◌, ◌*◌, ◌+◌, ◌<◌, [], after_transition, All, All-append, All-cons, All-filter, All-from_get_or}
 use Rattle.pct_names.proofs.Names.{All-head, All-map, All-nil, All-tail, All-weaker, Alt, and_parts, ap, arith, as_reaped, body_at, Bool}
-use Rattle.pct_names.proofs.Names.{by_slot, changed, child_of, choices_of, cond, Config, count_by, count_by-le-length, Entry, false}
-use Rattle.pct_names.proofs.Names.{false≢true, family_among, filter, find, first_process, flat_map, free_ids, get_or, get_or-range_with_len}
-use Rattle.pct_names.proofs.Names.{has_ended, holds_slot, inherited, inl, inr, is_free, is_live_process, is_live_thread, is_on, is_unreaped}
-use Rattle.pct_names.proofs.Names.{KeyPlace, left_keys, length, length-map, length-range_with_len, List, list_any, map, MAX_BUDGET}
-use Rattle.pct_names.proofs.Names.{MAX_PASSES, MAX_SLOTS, MIN_PASSES, moved, mul-le-mul, nat_eq, nat_le, new_keys, NewThread, next_id}
-use Rattle.pct_names.proofs.Names.{next_of, NextStatement, None, none-some, not, offers, opening, Option, option_and_then, option_map}
-use Rattle.pct_names.proofs.Names.{or_cases, orphaned, other_process_after, Others, others_of, Process, process_after, process_made}
-use Rattle.pct_names.proofs.Names.{process_moved, ProcessAction, ProcessEnd, range_with_len, refl, relative_of, Run, run, run_from}
-use Rattle.pct_names.proofs.Names.{run_step, same_Some, Script, shared_moved, SharedState, Some, Status, step, subst, suc, Successor, sym}
-use Rattle.pct_names.proofs.Names.{Thread, thread_created, thread_moved, threads_moved, Transition, transition_by, true, Waiter, waiter_by}
-use Rattle.pct_names.proofs.Names.{waiters_among, World, ℕ, ◌∙◌, ◌∷◌, ◌≡◌, ◌≤◌}
+use Rattle.pct_names.proofs.Names.{by_slot, changed, child_of, choices_of, cond, Config, count_by, count_by-le-length, Entry, Environment}
+use Rattle.pct_names.proofs.Names.{environment_of, false, false≢true, family_among, filter, find, first_process, flat_map, free_ids, get_or}
+use Rattle.pct_names.proofs.Names.{get_or-range_with_len, has_ended, has_valid_id, holds_slot, inherited, inl, inr, is_free}
+use Rattle.pct_names.proofs.Names.{is_live_process, is_on, is_unreaped, KeyPlace, left_keys, length, length-map, length-range_with_len}
+use Rattle.pct_names.proofs.Names.{List, list_any, map, MAX_BUDGET, MAX_PASSES, MAX_SLOTS, MIN_PASSES, moved, mul-le-mul, nat_eq, nat_le}
+use Rattle.pct_names.proofs.Names.{new_keys, NewThread, next_id, next_of, NextStatement, None, none-some, not, offers, opening, Option}
+use Rattle.pct_names.proofs.Names.{option_and_then, option_map, or_cases, orphaned, other_process_after, Process, process_after}
+use Rattle.pct_names.proofs.Names.{process_made, process_moved, ProcessAction, ProcessEnd, range_with_len, refl, relative_of, Run, run}
+use Rattle.pct_names.proofs.Names.{run_from, run_step, same_Some, Script, shared_moved, SharedState, Some, Status, step, subst, suc}
+use Rattle.pct_names.proofs.Names.{Successor, sym, Thread, thread_created, thread_moved, threads_moved, Transition, transition_by, true}
+use Rattle.pct_names.proofs.Names.{Waiter, waiter_by, waiters_among, World, ℕ, ◌∙◌, ◌∷◌, ◌≡◌, ◌≤◌}
 use Rattle.std.proofs.Common.{length-append, zero-add, eqb-true}
 use Rattle.std.proofs.lemmas.Bool.{leb-true}
 use Rattle.pct_model.specs.declared.schedule.Alt.TheVariants as alt
@@ -25,7 +25,8 @@ use Rattle.pct_engine_laws.proofs.KeyNumbers.{HasFewOn, new_keys_within, left_ke
 use Rattle.pct_engine_laws.proofs.WhatTransitionsMake.{Creates, MakesWith, transition_makes}
 use Rattle.pct_engine_laws.proofs.ProcessNumbers.{AreNumbered, numbered_after, numbered_then, new_pid_is_next, child_pid, made_by}
 use Rattle.pct_engine_laws.proofs.ThreadChanges.{transition_keeps, inherited_id}
-use Rattle.pct_transition_cases.proofs.OfferedChoices.{Offered, may_go, may_act, may_create, may_make_key, may_pick, may_hand_on, may_destroy, offered_of}
+use Rattle.pct_transition_cases.proofs.OfferedChoices.{Offered, may_go, may_act, may_create, may_make_key, may_pick, may_hand_on}
+use Rattle.pct_transition_cases.proofs.OfferedChoices.{may_destroy, offered_of}
 
 -- ---- the numbers of a process
 
@@ -94,49 +95,49 @@ all_among P n (k ∷ numbers) all among = elim (or_cases (nat_eq n k) (list_any 
 waiter_among : (P : ℕ → Type 0) (n : ℕ) (waiters : List Waiter) → All (λ (w : Waiter). P w.id) waiters → list_any (λ waiter. nat_eq n waiter.id) waiters ≡ true → P n
 waiter_among P n waiters all among = all_among P n (map (λ w. w.id) waiters) (All-map P (λ (w : Waiter). w.id) waiters all) (any-map (nat_eq n) (λ (w : Waiter). w.id) waiters ∙ among)
 
-case_within : (limit : ℕ) (shared : SharedState) (t : Thread) (others : Others)
-    → ((c : ℕ) → All (λ (w : Waiter). w.id ≤ limit) (others.waiters c)) → All (λ (n : ℕ). n ≤ limit) others.new_ids → All (λ (n : ℕ). n ≤ limit) (new_keys shared.keys) → All (λ (n : ℕ). n ≤ limit) (left_keys shared.keys t.specific)
-    → {next : NextStatement} {s : Status} {choice : Alt} → Offered shared t others next s choice → IsChoiceWithin limit choice
-case_within limit shared t others waiting ids made left (may_go next s alive) = tt
-case_within limit shared t others waiting ids made left (may_act next s alive delivered where_it_may) = omega arith
-case_within limit shared t others waiting ids made left (may_create frame result id f v detached n among) = all_among (λ (k : ℕ). k ≤ limit) n others.new_ids ids among
-case_within limit shared t others waiting ids made left (may_make_key frame result key destructor n among) = all_among (λ (k : ℕ). k ≤ limit) n (new_keys shared.keys) made among
-case_within limit shared t others waiting ids made left (may_pick frame c n among) = waiter_among (λ (k : ℕ). k ≤ limit) n (others.waiters c) (waiting c) among
-case_within limit shared t others waiting ids made left (may_hand_on next c m n enabled among) = waiter_among (λ (k : ℕ). k ≤ limit) n (others.waiters c) (waiting c) among
-case_within limit shared t others waiting ids made left (may_destroy next k none among) = all_among (λ (n : ℕ). n ≤ limit) k (left_keys shared.keys t.specific) left among
+case_within : (limit : ℕ) (shared : SharedState) (t : Thread) (environment : Environment)
+    → ((c : ℕ) → All (λ (w : Waiter). w.id ≤ limit) (environment.waiters c)) → All (λ (n : ℕ). n ≤ limit) environment.new_ids → All (λ (n : ℕ). n ≤ limit) (new_keys shared.keys) → All (λ (n : ℕ). n ≤ limit) (left_keys shared.keys t.specific)
+    → {next : NextStatement} {s : Status} {choice : Alt} → Offered shared t environment next s choice → IsChoiceWithin limit choice
+case_within limit shared t environment waiting ids made left (may_go next s alive) = tt
+case_within limit shared t environment waiting ids made left (may_act next s alive delivered where_it_may) = omega arith
+case_within limit shared t environment waiting ids made left (may_create frame result id f v detached n among) = all_among (λ (k : ℕ). k ≤ limit) n environment.new_ids ids among
+case_within limit shared t environment waiting ids made left (may_make_key frame result key destructor n among) = all_among (λ (k : ℕ). k ≤ limit) n (new_keys shared.keys) made among
+case_within limit shared t environment waiting ids made left (may_pick frame c n among) = waiter_among (λ (k : ℕ). k ≤ limit) n (environment.waiters c) (waiting c) among
+case_within limit shared t environment waiting ids made left (may_hand_on next c m n enabled among) = waiter_among (λ (k : ℕ). k ≤ limit) n (environment.waiters c) (waiting c) among
+case_within limit shared t environment waiting ids made left (may_destroy next k none among) = all_among (λ (n : ℕ). n ≤ limit) k (left_keys shared.keys t.specific) left among
 
 module _ (script : Script) (config : Config) (w : World) (p : Process) (t : Thread) (choice : Alt) (n : ℕ) (slots : config.slots ≤ 64) (has : HasFew n p.pid p.threads p.shared.keys) (offered : offers (choices_of script config w p t) choice ≡ true) where
   -- what it sees of the others
-  abbrev others : Others
-  others = others_of config.slots w p t.id
+  abbrev environment : Environment
+  environment = environment_of config.slots w p t.id
 
-  ids_within : All (λ (id : ℕ). id ≤ 64 + 64 * n) others.new_ids
-  unfolding others_of
+  ids_within : All (λ (id : ℕ). id ≤ 64 + 64 * n) environment.new_ids
+  unfolding environment_of
   ids_within = free_within config.slots n p.threads slots has.few
 
-  waiters_within : (c : ℕ) → All (λ (w : Waiter). w.id ≤ 64 + 64 * n) (others.waiters c)
-  unfolding others_of
+  waiters_within : (c : ℕ) → All (λ (w : Waiter). w.id ≤ 64 + 64 * n) (environment.waiters c)
+  unfolding environment_of
   waiters_within c = waiting_within (λ (id : ℕ). id ≤ 64 + 64 * n) config.slots c p.threads has.ids
 
-  new_pid : (pid : ℕ) → others.family.new_pid ≡ Some pid → pid ≡ suc (length w.processes)
-  unfolding others_of family_among
+  new_pid : (pid : ℕ) → environment.family.new_pid ≡ Some pid → pid ≡ suc (length w.processes)
+  unfolding environment_of family_among
   new_pid pid is = new_pid_is_next (length w.processes) pid (map relative_of (filter is_unreaped w.processes)) is
 
   -- a choice that the thread is offered
   choice_within : IsChoiceWithin (128 + 128 * n) choice
   choice_within =
       let within : (id : ℕ) → id ≤ 64 + 64 * n → id ≤ 128 + 128 * n = λ id small. omega (arith, small) in
-      let more : All (λ (id : ℕ). id ≤ 128 + 128 * n) others.new_ids = All-weaker (λ (id : ℕ). id ≤ 64 + 64 * n) (λ id. id ≤ 128 + 128 * n) within others.new_ids ids_within in
-      let waiting : (c : ℕ) → All (λ (w : Waiter). w.id ≤ 128 + 128 * n) (others.waiters c) =
-      λ c. All-weaker (λ (w : Waiter). w.id ≤ 64 + 64 * n) (λ w. w.id ≤ 128 + 128 * n) (λ w. within w.id) (others.waiters c) (waiters_within c) in
-      case_within (128 + 128 * n) p.shared t others waiting more (new_keys_within n p.shared.keys has.keys_few) (left_keys_within n p.shared.keys has.keys_few t.specific)
-      (offered_of (body_at script t.frames) p.shared t others choice (next_of script t.frames) t.status offered)
+      let more : All (λ (id : ℕ). id ≤ 128 + 128 * n) environment.new_ids = All-weaker (λ (id : ℕ). id ≤ 64 + 64 * n) (λ id. id ≤ 128 + 128 * n) within environment.new_ids ids_within in
+      let waiting : (c : ℕ) → All (λ (w : Waiter). w.id ≤ 128 + 128 * n) (environment.waiters c) =
+      λ c. All-weaker (λ (w : Waiter). w.id ≤ 64 + 64 * n) (λ w. w.id ≤ 128 + 128 * n) (λ w. within w.id) (environment.waiters c) (waiters_within c) in
+      case_within (128 + 128 * n) p.shared t environment waiting more (new_keys_within n p.shared.keys has.keys_few) (left_keys_within n p.shared.keys has.keys_few t.specific)
+      (offered_of (body_at script t.frames) p.shared t environment choice (next_of script t.frames) t.status offered)
 
   -- what its transition makes
   made_within : MakesWithin n (length w.processes) (transition_by script config w p t choice)
   made_within =
-      transition_makes (λ id. id ≤ 64 + 64 * n) (λ k. k ≤ 128 + 128 * n) (λ pid. pid ≡ suc (length w.processes)) config.passes (body_at script t.frames) p.shared t others
-      (λ id among. all_among (λ (i : ℕ). i ≤ 64 + 64 * n) id others.new_ids ids_within among)
+      transition_makes (λ id. id ≤ 64 + 64 * n) (λ k. k ≤ 128 + 128 * n) (λ pid. pid ≡ suc (length w.processes)) config.passes (body_at script t.frames) p.shared t environment
+      (λ id among. all_among (λ (i : ℕ). i ≤ 64 + 64 * n) id environment.new_ids ids_within among)
       (λ k among. all_among (λ (i : ℕ). i ≤ 128 + 128 * n) k (new_keys p.shared.keys) (new_keys_within n p.shared.keys has.keys_few) among)
       new_pid
       choice (next_of script t.frames) t.status offered
@@ -287,7 +288,7 @@ step_within script config n w e s slots is has =
     let p = legal.process in
     let t = legal.thread in
     let process = found_all (HasFewIn n) (is_live_process e.pid) w.processes p legal.live has.each in
-    let thread = found_all (λ (x : Thread). x.id ≤ 64 + 64 * n) (is_live_thread e.tid) p.threads t legal.holds process.0.ids in
+    let thread = found_all (λ (x : Thread). x.id ≤ 64 + 64 * n) (has_valid_id e.tid) p.threads t legal.holds process.0.ids in
     let pid : p.pid ≡ e.pid = eqb-true p.pid e.pid (and_parts (nat_eq p.pid e.pid) (not (has_ended p)) process.1).0 in
     let tid : t.id ≡ e.tid = eqb-true t.id e.tid (and_parts (nat_eq t.id e.tid) (holds_slot t) thread.1).0 in
     subst (λ (x : Successor). StepsWithin n e x.world) made.1

@@ -1,7 +1,7 @@
 -- The slots of a process after a transition of one of its threads.
 use Rattle.pct_names.proofs.Names.{◌&&◌, ◌+◌, ◌++◌, ◌-◌, ◌<◌, [], and_right, ap, arith, Bool, Broadcast, Cause, cond, count_by, Ended}
-use Rattle.pct_names.proofs.Names.{false, false≢true, filter, filter-append, fold_push, holds_slot, in_child, inherited, is_ended_status}
-use Rattle.pct_names.proofs.Names.{is_live_thread, is_on, is_waiting_on, List, map, moved, named_after, NamedAction, nat_eq, new_frame}
+use Rattle.pct_names.proofs.Names.{false, false≢true, filter, filter-append, fold_push, has_valid_id, holds_slot, in_child, inherited}
+use Rattle.pct_names.proofs.Names.{is_ended_status, is_on, is_waiting_on, List, map, moved, named_after, NamedAction, nat_eq, new_frame}
 use Rattle.pct_names.proofs.Names.{new_thread, NewThread, None, not, Option, option_map_or, own_after, OwnAction, range_with_len, refl}
 use Rattle.pct_names.proofs.Names.{replica_of, Signalled, slice_set, slot_of, Some, Start, Status, sym, Thread, thread_at, thread_created}
 use Rattle.pct_names.proofs.Names.{thread_moved, threads_moved, Transition, true, unblocked, Waiting, ◌||◌, ℕ, ◌∙◌, ◌∷◌, ◌≡◌}
@@ -45,7 +45,7 @@ module _ (slots : ℕ) (change : Thread → Thread) (keeps : KeepsSlots change) 
 
 -- a thread of the process after a change of the one with an id
 abbrev pub on_thread : ℕ → (Thread → Thread) → Thread → Thread
-on_thread tid change t = cond (is_live_thread tid t) (change t) t
+on_thread tid change t = cond (has_valid_id tid t) (change t) t
 
 module _ (tid : ℕ) (change : Thread → Thread) (same_id : (t : Thread) → (change t).id ≡ t.id) where
   id_if : (t : Thread) (test : Bool) → (cond test (change t) t).id ≡ t.id
@@ -58,7 +58,7 @@ module _ (tid : ℕ) (change : Thread → Thread) (same_id : (t : Thread) → (c
 
   -- a change of the thread with an id that keeps the id
   pub on_thread_keeps : KeepsSlots (on_thread tid change)
-  on_thread_keeps = record { same_id = λ t. id_if t (is_live_thread tid t); reclaimed = reclaimed_if }
+  on_thread_keeps = record { same_id = λ t. id_if t (has_valid_id tid t); reclaimed = reclaimed_if }
 
 -- a change of the threads that pass a test
 passing_keeps : (test : Thread → Bool) (change : Thread → Thread) → KeepsSlots change → KeepsSlots (λ t. cond (test t) (change t) t)
@@ -104,7 +104,7 @@ unblocked_ended why s = refl
 pub named_keeps : (a : Option NamedAction) → KeepsSlots (named_after a)
 unfolding named_after
 named_keeps (Some (named_action.EndJoin id)) = on_thread_keeps id (λ t. record t { joined = true }) (λ t. refl)
-named_keeps (Some (named_action.Request id)) = passing_keeps (λ t. is_live_thread id t && not t.ended) (λ t. record t { pending = true }) (record { same_id = λ t. refl; reclaimed = λ t gone. gone })
+named_keeps (Some (named_action.Request id)) = passing_keeps (λ t. has_valid_id id t && not t.ended) (λ t. record t { pending = true }) (record { same_id = λ t. refl; reclaimed = λ t gone. gone })
 named_keeps (Some (named_action.Detach id)) = on_thread_keeps id (λ t. record t { detached = true }) (λ t. refl)
 named_keeps (Some (named_action.Wake id)) = on_thread_keeps id (λ t. record t { status = unblocked Signalled t.status }) (λ t. refl)
 named_keeps (Some (named_action.WakeAll c)) = passing_keeps (λ t. is_waiting_on c t.status) (λ t. record t { status = unblocked Broadcast t.status }) (record {
@@ -181,7 +181,7 @@ heir_id t false = refl
 -- a child keeps the ids of threads
 pub inherited_id : (tid : ℕ) (t : Thread) → (inherited tid t).id ≡ t.id
 unfolding inherited
-inherited_id tid t = heir_id t (is_live_thread tid t)
+inherited_id tid t = heir_id t (has_valid_id tid t)
 
 -- a replica of a thread that holds its slot holds it too: a thread that has ended and holds its slot is not detached
 replica_holds : (s : Status) (gone joined detached : Bool) → (not gone && not (is_ended_status s && (joined || detached))) ≡ true → not (is_ended_status (in_child s) && (false || detached)) ≡ true

@@ -1,21 +1,21 @@
 -- The transition of an entry depends only on what is kept of the state.
-use Rattle.pct_names.proofs.Names.{◌&&◌, ◌<◌, acts_or, ap, body_at, Bool, choices_at, Config, Entry, false, filter, find, if_offered}
-use Rattle.pct_names.proofs.Names.{if◌then◌else◌, is_live_process, is_some, List, map, nat_eq, next_of, None, not, offers, Option}
-use Rattle.pct_names.proofs.Names.{option_and_then, option_map, Others, Process, ProcessEnd, refl, Script, Some, sym, Thread, Transition}
+use Rattle.pct_names.proofs.Names.{◌&&◌, ◌<◌, acts_or, ap, body_at, Bool, choices_at, Config, Entry, Environment, false, filter, find}
+use Rattle.pct_names.proofs.Names.{if_offered, if◌then◌else◌, is_live_process, is_some, List, map, nat_eq, next_of, None, not, offers}
+use Rattle.pct_names.proofs.Names.{Option, option_and_then, option_map, Process, ProcessEnd, refl, Script, Some, sym, Thread, Transition}
 use Rattle.pct_names.proofs.Names.{transition_at, transition_of, true, was_reaped, with_id, World, ℕ, ◌∙◌, ◌≡◌}
 use mathlib.Core.Bool.{and-false}
 use Rattle.std.proofs.Math.Path.{fun_ext}
 use Rattle.pct_engine_laws.specs.Seen.{SeenProcess, seen_process, seen, family_in, is_live_seen}
 use Rattle.pct_engine_laws.specs.SeenSteps.{thread_with, if_offered_in, seen_transition}
 use Rattle.pct_engine_laws.proofs.ListFacts.{find_agree, find-map, find-filter, then-map}
-use Rattle.pct_engine_laws.proofs.AnswerSeen.{thread_seen, others_seen}
+use Rattle.pct_engine_laws.proofs.AnswerSeen.{thread_seen, environment_seen}
 
 -- ---- threads
 
 -- the transition of a thread by an entry
 pub offered_seen : (script : Script) (config : Config) (w : World) (p : Process) (e : Entry) (t : Thread) → 0 < config.slots → if_offered script config w p e t ≡ if_offered_in script config.slots config.passes (family_in (seen config.slots w) p.pid) (seen_process config.slots p) e t
 offered_seen script config w p e t some =
-    ap (λ (others : Others). if offers (choices_at (body_at script t.frames) p.shared t others (next_of script t.frames) t.status) e.alt then Some (acts_or e.alt t.status (transition_at config.passes (body_at script t.frames) p.shared t others e.alt (next_of script t.frames) t.status)) else None) (others_seen config.slots t.id w p some)
+    ap (λ (environment : Environment). if offers (choices_at (body_at script t.frames) p.shared t environment (next_of script t.frames) t.status) e.alt then Some (acts_or e.alt t.status (transition_at config.passes (body_at script t.frames) p.shared t environment e.alt (next_of script t.frames) t.status)) else None) (environment_seen config.slots t.id w p some)
 
 -- the transition of an entry by a process
 pub taken_seen : (script : Script) (config : Config) (w : World) (e : Entry) (p : Process) → 0 < config.slots → option_and_then (if_offered script config w p e) (with_id e.tid p.threads) ≡ option_and_then (if_offered_in script config.slots config.passes (family_in (seen config.slots w) p.pid) (seen_process config.slots p) e) (thread_with config.slots e.tid (seen_process config.slots p).slots)

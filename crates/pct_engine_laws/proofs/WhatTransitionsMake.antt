@@ -1,6 +1,6 @@
 -- What a transition makes: a thread and a key with the number of the choice, and a process with the id of a new one, if there are any.
-use Rattle.pct_names.proofs.Names.{acts_or, Alt, choices_at, List, list_any, nat_eq, new_keys, NewThread, NextStatement, None, offers}
-use Rattle.pct_names.proofs.Names.{Option, Others, ProcessAction, refl, SharedAction, SharedState, Some, Status, Stmt, Thread, Transition}
+use Rattle.pct_names.proofs.Names.{acts_or, Alt, choices_at, Environment, List, list_any, nat_eq, new_keys, NewThread, NextStatement, None}
+use Rattle.pct_names.proofs.Names.{offers, Option, ProcessAction, refl, SharedAction, SharedState, Some, Status, Stmt, Thread, Transition}
 use Rattle.pct_names.proofs.Names.{transition_at, true, ℕ, ◌≡◌}
 use Rattle.std.proofs.lemmas.Bool.{true≢false}
 use Rattle.pct_model.specs.declared.transition.ProcessAction.TheVariants as process_action
@@ -34,8 +34,8 @@ pub record MakesWith (P Q R : ℕ → Type 0) (o : Transition) : Type 0 where
 -- ---- transitions by a choice that is offered
 
 module _ (P Q R : ℕ → Type 0) where
-  module _ (passes : ℕ) (body : List Stmt) (shared : SharedState) (t : Thread) (others : Others) (new : (n : ℕ) → list_any (nat_eq n) others.new_ids ≡ true → P n) (made : (k : ℕ) → list_any (nat_eq k) (new_keys shared.keys) ≡ true → Q k) (forked : (pid : ℕ) → others.family.new_pid ≡ Some pid → R pid) where
-    case_makes : {next : NextStatement} {s : Status} {o : Transition} → TransitionCase passes body shared t others true next s o → MakesWith P Q R o
+  module _ (passes : ℕ) (body : List Stmt) (shared : SharedState) (t : Thread) (environment : Environment) (new : (n : ℕ) → list_any (nat_eq n) environment.new_ids ≡ true → P n) (made : (k : ℕ) → list_any (nat_eq k) (new_keys shared.keys) ≡ true → Q k) (forked : (pid : ℕ) → environment.family.new_pid ≡ Some pid → R pid) where
+    case_makes : {next : NextStatement} {s : Status} {o : Transition} → TransitionCase passes body shared t environment true next s o → MakesWith P Q R o
     case_makes (thread_made frame result id f v detached n among) = record { thread = new n (among refl); key = tt; process = tt }
     case_makes (key_made frame result key destructor k among) = record { thread = tt; key = made k (among refl); process = tt }
     case_makes (process_forked next at child prepares is) = record { thread = tt; key = tt; process = forked child is }
@@ -43,5 +43,5 @@ module _ (P Q R : ℕ → Type 0) where
 
     -- the transition of a thread by a choice that is offered: a thread that it creates has one of the ids for a new thread, a key that
     -- it makes one of the numbers for a new key, and a process that it makes the id of a new one
-    pub transition_makes : (choice : Alt) (next : NextStatement) (s : Status) → offers (choices_at body shared t others next s) choice ≡ true → MakesWith P Q R (acts_or choice s (transition_at passes body shared t others choice next s))
-    transition_makes choice next s offered = case_makes (case_of passes body shared t others true choice next s (λ known. offered))
+    pub transition_makes : (choice : Alt) (next : NextStatement) (s : Status) → offers (choices_at body shared t environment next s) choice ≡ true → MakesWith P Q R (acts_or choice s (transition_at passes body shared t environment choice next s))
+    transition_makes choice next s offered = case_makes (case_of passes body shared t environment true choice next s (λ known. offered))

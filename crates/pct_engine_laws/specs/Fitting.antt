@@ -8,7 +8,7 @@ use Rattle.pct_model.specs.ThreadSlots.{is_ended_status}
 
 -- a thread with these numbers of frames, of cleanup handlers and of passes has room for its action, if it has one. A function that the
 -- host calls may be one frame above those that a script calls.
-abbrev pub Fits : ℕ → ℕ → ℕ → Option OwnAction → Type 0
+abbrev pub Fits : (depth handlers pass : ℕ) → Option OwnAction → Type 0
 Fits depth handlers pass (Some (own_action.Call f a kind)) = depth ≤ MAX_FRAMES
 Fits depth handlers pass (Some (own_action.CallHandler f a)) = depth ≤ MAX_FRAMES
 Fits depth handlers pass (Some (own_action.CallForkHandler at f)) = depth ≤ MAX_FRAMES

@@ -129,15 +129,15 @@ child_seen_by tid p (Some (process_action.Make pid)) = child_seen tid pid p ∷ 
 child_seen_by tid p _ = []
 
 -- the processes that the transition makes
-abbrev pub children_seen : ℕ → ℕ → ℕ → Transition → List SeenProcess → List SeenProcess
+abbrev pub children_seen : (slots pid tid : ℕ) → Transition → List SeenProcess → List SeenProcess
 children_seen slots pid tid o ps = flat_map (λ p. if is_live_seen pid p then child_seen_by tid (process_seen slots tid o p) o.process else []) ps
 
 -- the processes that were made before, after the transition
-abbrev pub processes_kept : ℕ → ℕ → ℕ → Transition → List SeenProcess → List SeenProcess
+abbrev pub processes_kept : (slots pid tid : ℕ) → Transition → List SeenProcess → List SeenProcess
 processes_kept slots pid tid o ps = flat_map (λ p. if is_live_seen pid p then own_process_seen slots tid o p else other_process_seen pid o p) ps
 
 -- all after a transition of thread tid of process pid
-unfoldable pub seen_after : ℕ → ℕ → ℕ → Transition → Seen → Seen
+unfoldable pub seen_after : (slots pid tid : ℕ) → Transition → Seen → Seen
 seen_after slots pid tid o v =
     let children : List SeenProcess = children_seen slots pid tid o v.processes in
     record { processes = processes_kept slots pid tid o v.processes ++ children; made = v.made + length children; stop = stop_after o.stop v.stop }

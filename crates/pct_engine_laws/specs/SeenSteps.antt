@@ -13,7 +13,7 @@ use Rattle.pct_model.specs.World.{Thread}
 use Rattle.pct_model.specs.ThreadSlots.{slot_of}
 use Rattle.pct_model.specs.NextStatement.{next_of, body_at}
 use Rattle.pct_model.specs.OtherProcesses.{Family}
-use Rattle.pct_model.specs.OtherThreads.{Others, is_joining, waiters_among}
+use Rattle.pct_model.specs.Environment.{Environment, is_joining, waiters_among}
 use Rattle.pct_model.specs.ChoiceTable.{choices_at, offers, is_enabled}
 use Rattle.pct_model.specs.TransitionTable.{transition_at, acts_or}
 use Rattle.pct_model.specs.Chosen.{Candidate, item_at, entry_for}
@@ -50,8 +50,8 @@ new_ids_from slots s [] = []
 new_ids_from slots s (row ∷ rows) = new_id_on slots s row ++ new_ids_from slots (s + 1) rows
 
 -- what the thread with an id sees of the others: the threads on these slots, and the other processes
-unfoldable pub others_in : ℕ → Family → List SeenSlot → ℕ → Others
-others_in slots family rows tid = record {
+unfoldable pub environment_in : ℕ → Family → List SeenSlot → ℕ → Environment
+environment_in slots family rows tid = record {
   named = λ id. thread_with slots id rows;
   another_joins = λ id. is_joined_in id rows;
   new_ids = new_ids_from slots 0 rows;
@@ -64,11 +64,11 @@ others_in slots family rows tid = record {
 
 -- the choices of a thread of a process, which sees these other processes
 abbrev pub choices_in : Script → ℕ → Family → SeenProcess → Thread → List Alt
-choices_in script slots family p t = choices_at (body_at script t.frames) p.shared t (others_in slots family p.slots t.id) (next_of script t.frames) t.status
+choices_in script slots family p t = choices_at (body_at script t.frames) p.shared t (environment_in slots family p.slots t.id) (next_of script t.frames) t.status
 
 -- what a thread of a process does by a choice, with this limit on the passes over destructors
 abbrev pub transition_in : Script → ℕ → ℕ → Family → SeenProcess → Thread → Alt → Transition
-transition_in script slots passes family p t choice = acts_or choice t.status (transition_at passes (body_at script t.frames) p.shared t (others_in slots family p.slots t.id) choice (next_of script t.frames) t.status)
+transition_in script slots passes family p t choice = acts_or choice t.status (transition_at passes (body_at script t.frames) p.shared t (environment_in slots family p.slots t.id) choice (next_of script t.frames) t.status)
 
 -- ---- transitions
 
@@ -99,7 +99,7 @@ unfoldable pub seen_candidates : Script → ℕ → Seen → List Candidate
 seen_candidates script slots v = flat_map (λ p. map (candidate_in script slots (family_in v p.pid) p) (ready_in script slots (family_in v p.pid) p)) v.processes
 
 -- the entry that a worker's two numbers choose, if the run was not stopped
-abbrev pub seen_chosen : Script → ℕ → Seen → ℕ → ℕ → ℕ → Option Entry
+abbrev pub seen_chosen : Script → ℕ → Seen → (worker a b : ℕ) → Option Entry
 seen_chosen script slots v worker a b = if is_none v.stop then option_and_then (entry_for worker b) (item_at (seen_candidates script slots v) a) else None
 
 -- ---- the verdict

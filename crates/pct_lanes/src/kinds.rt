@@ -114,7 +114,7 @@ const FIRST_WORDS: [(&str, Kind); 10] = [
 impl Kind {
     /// The kind of a step, if it does not depend on the function that the thread is in.
     pub(crate) fn of_step(step: &Step) -> Kind {
-        if step.is_act() {
+        if step.acts_on_request() {
             return Kind::Act;
         }
         if step.events.starts_with("pop ") && step.events.contains(" run") {

@@ -66,7 +66,7 @@ impl<'a> Step<'a> {
     }
 
     /// Whether the thread acts on a request in this step.
-    pub(crate) fn is_act(&self) -> bool {
+    pub(crate) fn acts_on_request(&self) -> bool {
         self.choice.starts_with("act")
     }
 

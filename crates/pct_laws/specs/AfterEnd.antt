@@ -31,8 +31,8 @@ abbrev pub all_have_ended : ℕ → List Event → Bool
 all_have_ended pid events = list_all (λ tid. thread_ended pid tid events) (known_ids pid events)
 
 -- what the law asks of an event of a thread of process pid, by the summary of the thread before it
-abbrev pub may_follow : What → ThreadSummary → ℕ → List Event → Bool
-may_follow w s pid earlier =
+abbrev pub may_follow_end : What → ThreadSummary → ℕ → List Event → Bool
+may_follow_end w s pid earlier =
     -- while the thread exits its process, it is one of the exit
     if s.exiting then is_of_exit w
     -- after its end it is that the thread begins to exit its process with 0, as each thread of the process has ended
@@ -42,4 +42,4 @@ may_follow w s pid earlier =
 
 -- an event may come after those before it
 abbrev pub allows : Event → List Event → Bool
-allows e earlier = may_follow e.what (summary_of e.pid e.tid earlier) e.pid earlier
+allows e earlier = may_follow_end e.what (summary_of e.pid e.tid earlier) e.pid earlier

@@ -38,15 +38,15 @@ use Rattle.pct_model.specs.World.{World}
 -- ---- the law of a step
 
 -- the event is that a thread acts on a request: it is canceled, or leaves its condition wait
-abbrev pub is_act : What → Bool
-is_act what.EndingCanceled = true
-is_act (what.WaitCanceled c) = true
-is_act _ = false
+abbrev pub is_cancellation : What → Bool
+is_cancellation what.EndingCanceled = true
+is_cancellation (what.WaitCanceled c) = true
+is_cancellation _ = false
 
 -- a thread acts on a request where it may: at a cancellation point, or anywhere if it set its cancelability asynchronous last
 abbrev pub acts_where_it_may : Script → ThreadStep → Bool
 acts_where_it_may script s =
-    not (list_any is_act s.events) || is_at_cancellation_point (next_of script s.before.frames) s.before.status || is_asynchronous_last s.pid s.tid s.earlier
+    not (list_any is_cancellation s.events) || is_at_cancellation_point (next_of script s.before.frames) s.before.status || is_asynchronous_last s.pid s.tid s.earlier
 
 -- a thread with this status runs
 abbrev pub is_running : Status → Bool

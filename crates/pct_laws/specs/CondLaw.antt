@@ -9,7 +9,7 @@ use Rattle.pct_model.specs.declared.event.What.{What}
 use Rattle.pct_model.specs.declared.event.What.TheVariants as what
 use Rattle.pct_laws.specs.KnownThreads.{is_own}
 use Rattle.pct_laws.specs.MutexOwners.{owner_of}
-use Rattle.pct_laws.specs.WaitStages.{wait_stage, may_follow}
+use Rattle.pct_laws.specs.WaitStages.{wait_stage, may_follow_stage}
 
 -- ---- owners
 
@@ -30,19 +30,19 @@ owners_allow e earlier = may_own e.what e.tid (λ m. owner_of e.pid m earlier)
 
 -- an event may follow in the condition wait of its thread, if that has one
 abbrev pub waits_allow : Event → List Event → Bool
-waits_allow e earlier = may_follow (wait_stage e.pid e.tid earlier) e.what
+waits_allow e earlier = may_follow_stage (wait_stage e.pid e.tid earlier) e.what
 
 -- ---- signals that are handed on
 
 -- the event is that a request is acted upon in a wait on condition variable c
-abbrev pub leaves_wait : ℕ → What → Bool
-leaves_wait c (what.WaitCanceled cond) = nat_eq cond c
-leaves_wait c _ = false
+abbrev pub cancels_wait_on : ℕ → What → Bool
+cancels_wait_on c (what.WaitCanceled cond) = nat_eq cond c
+cancels_wait_on c _ = false
 
 -- the newest of some events is that thread tid of process pid acts upon a request in a wait on condition variable c
-abbrev pub has_just_left : ℕ → ℕ → ℕ → List Event → Bool
+abbrev pub has_just_left : (pid tid c : ℕ) → List Event → Bool
 has_just_left pid tid c [] = false
-has_just_left pid tid c (e ∷ earlier) = is_own pid tid e && leaves_wait c e.what
+has_just_left pid tid c (e ∷ earlier) = is_own pid tid e && cancels_wait_on c e.what
 
 -- what the law asks of an event of thread tid of process pid, by those before it
 abbrev pub may_hand_on : What → ℕ → ℕ → List Event → Bool

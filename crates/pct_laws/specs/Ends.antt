@@ -41,8 +41,8 @@ abbrev pub is_in_pass : ℕ → Thread → Bool
 is_in_pass place t = option_map_or (λ in_pass. in_pass) (slice_get t.specific.in_pass place) false
 
 -- no key that is due is left in the pass of the thread
-abbrev pub none_left : List KeyPlace → Thread → Bool
-none_left keys t = not (list_any (λ place. is_in_pass place t && is_due keys t.specific place) (range_with_len 0 MAX_KEYS))
+abbrev pub is_pass_over : List KeyPlace → Thread → Bool
+is_pass_over keys t = not (list_any (λ place. is_in_pass place t && is_due keys t.specific place) (range_with_len 0 MAX_KEYS))
 
 -- each key that is due in a thread is in the pass of the thread after a step
 abbrev pub takes_due : List KeyPlace → Thread → Thread → Bool
@@ -77,7 +77,7 @@ abbrev pub pass_may_begin : ℕ → ThreadStep → Bool
 pass_may_begin n s =
     has_run_handlers s
     -- the pass before is over, and keys are due
-    && none_left s.process.shared.keys s.before && nat_lt 0 (count_due s.process.shared.keys s.before) && nat_eq n (suc s.before.pass)
+    && is_pass_over s.process.shared.keys s.before && nat_lt 0 (count_due s.process.shared.keys s.before) && nat_eq n (suc s.before.pass)
     -- the keys that are due are left in it
     && takes_due s.process.shared.keys s.before s.after
 
@@ -87,7 +87,7 @@ module _ (passes : ℕ) where
   thread_may_end s =
       has_run_handlers s
       -- its last pass is over; no key is due, or all passes were made
-      && none_left s.process.shared.keys s.before && (nat_eq (count_due s.process.shared.keys s.before) 0 || nat_le passes s.before.pass)
+      && is_pass_over s.process.shared.keys s.before && (nat_eq (count_due s.process.shared.keys s.before) 0 || nat_le passes s.before.pass)
       -- if each other thread of its process has ended, it begins to exit the process with 0
       && (not (others_have_ended s.before.id s.process) || list_any begins_exit_with_0 s.events)
       -- the keys that are due are reported

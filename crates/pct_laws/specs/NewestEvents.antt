@@ -16,6 +16,6 @@ abbrev pub newest_is : (What → Bool) → ℕ → ℕ → List Event → Bool
 newest_is test pid tid events = option_map_or test (newest_event pid tid events) false
 
 -- the event is a call of the cancellation point with an index
-abbrev pub calls_point : ℕ → What → Bool
-calls_point index (what.Called i) = nat_eq i index
-calls_point index _ = false
+abbrev pub reports_call : ℕ → What → Bool
+reports_call index (what.Called i) = nat_eq i index
+reports_call index _ = false

@@ -15,7 +15,7 @@ use Rattle.pct_model.specs.ForkCalls.{waitpid_point}
 use Rattle.pct_model.specs.SemCalls.{sem_wait_point}
 use Rattle.pct_model.specs.ThreadCalls.{join_point}
 use Rattle.pct_laws.specs.WaitStages.{WaitStage, InWait, ToReturn, ToEnd, wait_stage}
-use Rattle.pct_laws.specs.NewestEvents.{newest_is, calls_point}
+use Rattle.pct_laws.specs.NewestEvents.{newest_is, reports_call}
 
 -- ---- stages of condition waits
 
@@ -41,7 +41,7 @@ abbrev pub has_own_return : ℕ → Bool
 has_own_return index = nat_eq index join_point || nat_eq index sem_wait_point || nat_eq index waitpid_point
 
 -- thread tid of process pid may return from a cancellation point by `done`
-abbrev pub may_return : ℕ → ℕ → ℕ → List Event → Bool
+abbrev pub may_return : (index pid tid : ℕ) → List Event → Bool
 may_return index pid tid earlier =
     -- its return is no other event
     if has_own_return index then false
@@ -50,7 +50,7 @@ may_return index pid tid earlier =
     -- pthread_cond_wait returns at the end of a wait
     else if nat_eq index cond_wait_point then is_to_return (wait_stage pid tid earlier)
     -- and another point that shall be one directly after its call; an optional point has no event of its call
-    else not (is_required (point_kind index)) || newest_is (calls_point index) pid tid earlier
+    else not (is_required (point_kind index)) || newest_is (reports_call index) pid tid earlier
 
 -- ---- the law
 
@@ -65,10 +65,10 @@ may_act (what.EndingInWait c m) pid tid earlier = has_to_act pid tid earlier && 
 may_act (what.Called index) pid tid earlier = not (has_to_act pid tid earlier)
 -- it returns from such a function only if it called it before
 may_act (what.Done index) pid tid earlier = may_return index pid tid earlier
-may_act (what.Taken s) pid tid earlier = newest_is (calls_point sem_wait_point) pid tid earlier
-may_act (what.Reaped q n) pid tid earlier = newest_is (calls_point waitpid_point) pid tid earlier
+may_act (what.Taken s) pid tid earlier = newest_is (reports_call sem_wait_point) pid tid earlier
+may_act (what.Reaped q n) pid tid earlier = newest_is (reports_call waitpid_point) pid tid earlier
 -- with a request to act upon, it returns from waitpid without a child only if it called waitpid before
-may_act (what.Answer caller.WaitPid n) pid tid earlier = not (has_to_act pid tid earlier) || newest_is (calls_point waitpid_point) pid tid earlier
+may_act (what.Answer caller.WaitPid n) pid tid earlier = not (has_to_act pid tid earlier) || newest_is (reports_call waitpid_point) pid tid earlier
 -- it enables its cancelability only before it begins to end
 may_act (what.StateSet true) pid tid earlier = has_not_begun pid tid earlier
 -- the law asks nothing of the other events

@@ -64,7 +64,7 @@ abbrev pub thread_ended : ℕ → ℕ → List Event → Bool
 thread_ended pid tid events = is_some (summary_of pid tid events).ended
 
 -- it has ended with a value
-abbrev pub thread_ended_with : ℕ → ℕ → ℕ → List Event → Bool
+abbrev pub thread_ended_with : (v pid tid : ℕ) → List Event → Bool
 thread_ended_with v pid tid events = option_map_or (λ value. nat_eq value v) (summary_of pid tid events).ended false
 
 -- the lifetime of the id of thread tid of process pid is over: the thread has ended, and was joined or is detached (XSH 2.9.2)

@@ -69,11 +69,11 @@ ends_in_wait c m _ = false
 
 -- the event may be the next one of a thread at a stage. A wait that released its mutex goes on in one of two ways: the thread acquires the
 -- mutex and returns; or it acts upon a request, may hand on a signal, acquires the mutex and begins to end
-abbrev pub may_follow : WaitStage → What → Bool
-may_follow NoWait event = true
-may_follow AtCall event = true
-may_follow (InWait m) event = acquires m event || cancels_wait event
-may_follow ToReturn event = returns_from_wait event
-may_follow (Leaving c m) event = acquires m event || hands_on_signal c event
-may_follow (LeavingSignal c m) event = acquires m event
-may_follow (ToEnd c m) event = ends_in_wait c m event
+abbrev pub may_follow_stage : WaitStage → What → Bool
+may_follow_stage NoWait event = true
+may_follow_stage AtCall event = true
+may_follow_stage (InWait m) event = acquires m event || cancels_wait event
+may_follow_stage ToReturn event = returns_from_wait event
+may_follow_stage (Leaving c m) event = acquires m event || hands_on_signal c event
+may_follow_stage (LeavingSignal c m) event = acquires m event
+may_follow_stage (ToEnd c m) event = ends_in_wait c m event

@@ -19,7 +19,7 @@ use Rattle.pct_model.specs.NextStatement.{NextStatement, next_of}
 use Rattle.pct_model.specs.World.{Thread, thread_with}
 use Rattle.pct_laws.specs.AfterAll.{after_all}
 use Rattle.pct_laws.specs.CancelLaw.{is_running}
-use Rattle.pct_laws.specs.CondLaw.{leaves_wait}
+use Rattle.pct_laws.specs.CondLaw.{cancels_wait_on}
 use Rattle.pct_laws.specs.Kept.{is_cond_wait_of}
 use Rattle.pct_laws.specs.StatementLaw.{agree}
 use Rattle.pct_laws.specs.ThreadSteps.{ThreadStep, EachStep}
@@ -119,7 +119,7 @@ abbrev pub may_become : NextStatement → List What → Status → Status → Bo
 -- it waits by pthread_cond_wait alone, on what the operands name
 may_become next events before (status.Waiting c m) = is_running before && is_cond_wait_of c m next
 -- it acts upon a request in its wait, and goes for the mutex of this wait
-may_become next events before (status.Reacquire c m cause.Canceled) = is_in_wait c m before && list_any (leaves_wait c) events
+may_become next events before (status.Reacquire c m cause.Canceled) = is_in_wait c m before && list_any (cancels_wait_on c) events
 -- it does not unblock itself
 may_become next events before (status.Reacquire c m why) = false
 may_become next events before _ = has_its_mutex before events

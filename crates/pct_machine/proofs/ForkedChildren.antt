@@ -1,11 +1,11 @@
 -- The change of the list of processes that a transition makes can be made: a child has the next id, there is room for it, and the thread
 -- that forks holds its slot.
-use Rattle.pct_names.proofs.Names.{◌&&◌, ◌<◌, [], acts, and_parts, ap, body_at, Bool, cond, cond_some, Config, Entry, false, Family}
-use Rattle.pct_names.proofs.Names.{family_among, find, holds_slot, IfSome, is_ended_status, is_live_thread, length, length-map}
-use Rattle.pct_names.proofs.Names.{List, map, moved, named_after, nat_eq, nat_lt, next_of, NextStatement, None, not, offers, Option}
-use Rattle.pct_names.proofs.Names.{option_and_then, option_and_then_some, option_map, Others, own_after, Parent, pid_after, position}
-use Rattle.pct_names.proofs.Names.{ProcessAction, refl, Relative, Script, SharedState, slice_get, slice_get-map, slot_of, Some, Status}
-use Rattle.pct_names.proofs.Names.{Stmt, subst, suc, sym, Thread, thread_at, thread_moved, Transition, true, ◌||◌, ℕ, ◌∙◌, ◌∷◌, ◌≡◌}
+use Rattle.pct_names.proofs.Names.{◌&&◌, ◌<◌, [], acts, and_parts, ap, body_at, Bool, cond, cond_some, Config, Entry, Environment, false}
+use Rattle.pct_names.proofs.Names.{Family, family_among, find, has_valid_id, holds_slot, IfSome, is_ended_status, length, length-map, List}
+use Rattle.pct_names.proofs.Names.{map, moved, named_after, nat_eq, nat_lt, next_of, NextStatement, None, not, offers, Option}
+use Rattle.pct_names.proofs.Names.{option_and_then, option_and_then_some, option_map, own_after, Parent, pid_after, position, ProcessAction}
+use Rattle.pct_names.proofs.Names.{refl, Relative, Script, SharedState, slice_get, slice_get-map, slot_of, Some, Status, Stmt, subst, suc}
+use Rattle.pct_names.proofs.Names.{sym, Thread, thread_at, thread_moved, Transition, true, ◌||◌, ℕ, ◌∙◌, ◌∷◌, ◌≡◌}
 use Rattle.std.proofs.lemmas.Bool.{ltb-true}
 use Rattle.pct_model.specs.declared.event.What.TheVariants as what
 use Rattle.pct_model.specs.declared.state.Status.TheVariants as status
@@ -14,7 +14,7 @@ use Rattle.pct_model.specs.declared.transition.ProcessAction.TheVariants as proc
 use Rattle.pct_transition_cases.proofs.CaseOfTransition.{case_of}
 use Rattle.pct_transition_cases.proofs.TransitionCases.{TransitionCase, process_forked}
 use Rattle.pct_engine_laws.specs.Seen.{SeenSlot, SeenProcess, relative_in, slot_after, slots_moved, process_seen, is_live_seen}
-use Rattle.pct_engine_laws.specs.SeenSteps.{thread_on, thread_with, others_in, choices_in, transition_in, if_offered_in}
+use Rattle.pct_engine_laws.specs.SeenSteps.{thread_on, thread_with, environment_in, choices_in, transition_in, if_offered_in}
 use Rattle.pct_engine_laws.proofs.ListFacts.{find_agree, find-map, then-map}
 use Rattle.pct_engine_laws.proofs.ProcessNumbers.{new_pid_is_next}
 use Rattle.pct_engine_laws.proofs.ThreadChanges.{transition_keeps}
@@ -34,8 +34,8 @@ abbrev MakesBy : Family → Transition → Option ProcessAction → Type 0
 MakesBy family o (Some (process_action.Make child)) = (count : ℕ) × (family.new_pid ≡ Some child) × (o ≡ fork_of count child)
 MakesBy family o _ = Unit {0}
 
-module _ (passes : ℕ) (body : List Stmt) (shared : SharedState) (t : Thread) (others : Others) where
-  by_case : {next : NextStatement} {s : Status} {o : Transition} → TransitionCase passes body shared t others true next s o → MakesBy others.family o o.process
+module _ (passes : ℕ) (body : List Stmt) (shared : SharedState) (t : Thread) (environment : Environment) where
+  by_case : {next : NextStatement} {s : Status} {o : Transition} → TransitionCase passes body shared t environment true next s o → MakesBy environment.family o o.process
   by_case (process_forked next at child prepares is) = (at.length, is, refl)
   by_case _ = tt
 
@@ -46,7 +46,7 @@ module _ (tid count child : ℕ) where
   moves t = thread_moved tid (fork_of count child) t
 
   -- it holds its slot afterwards, as do the others
-  holds_if : (t : Thread) (live : Bool) → is_live_thread tid t ≡ live → holds_slot (cond live (moved (fork_of count child) t) t) ≡ holds_slot t
+  holds_if : (t : Thread) (live : Bool) → has_valid_id tid t ≡ live → holds_slot (cond live (moved (fork_of count child) t) t) ≡ holds_slot t
   unfolding own_after thread_at
   holds_if t true live =
       let holds : holds_slot t ≡ true = (and_parts (nat_eq t.id tid) (holds_slot t) live).1 in
@@ -56,7 +56,7 @@ module _ (tid count child : ℕ) where
 
   same_holders : (t : Thread) → holds_slot (moves t) ≡ holds_slot t
   unfolding named_after
-  same_holders t = holds_if t (is_live_thread tid t) refl
+  same_holders t = holds_if t (has_valid_id tid t) refl
 
   module _ (slots : List SeenSlot) (has : HasThread tid slots) where
     abbrev after : List SeenSlot
@@ -93,16 +93,16 @@ pub record IsTaken (slots tid : ℕ) (family : Family) (p : SeenProcess) (o : Tr
   pub makes : MakesBy family o o.process
 
 is_taken : (script : Script) (config : Config) (family : Family) (p : SeenProcess) (e : Entry) (o : Transition) → taken_in script config family p e ≡ Some o → IsTaken config.slots e.tid family p o
-unfolding others_in
+unfolding environment_in
 is_taken script config family p e o taken =
     option_and_then_some (if_offered_in script config.slots config.passes family p e) (thread_with config.slots e.tid p.slots) o taken (λ t holds may.
     let parts = cond_some (offers (choices_in script config.slots family p t) e.alt) (transition_in script config.slots config.passes family p t e.alt) o may in
     let body : List Stmt = body_at script t.frames in
-    let others : Others = others_in config.slots family p.slots t.id in
+    let environment : Environment = environment_in config.slots family p.slots t.id in
     record {
       thread = t;
       holds = holds;
-      makes = subst (λ (x : Transition). MakesBy family x x.process) parts.1 (by_case config.passes body p.shared t others (case_of config.passes body p.shared t others true e.alt (next_of script t.frames) t.status (λ known. parts.0)));
+      makes = subst (λ (x : Transition). MakesBy family x x.process) parts.1 (by_case config.passes body p.shared t environment (case_of config.passes body p.shared t environment true e.alt (next_of script t.frames) t.status (λ known. parts.0)));
     })
 
 -- there is room for a new process

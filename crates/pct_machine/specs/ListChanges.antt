@@ -19,11 +19,11 @@ abbrev pub taken_among : Script → Config → ProcessList → Entry → Option 
 taken_among script config list e = option_and_then (λ p. taken_in script config (families list p.pid) p e) (find (is_live_seen e.pid) list.processes)
 
 -- a process after the transition of a thread of process pid, but for the changes of the list
-abbrev pub process_moved : ℕ → ℕ → ℕ → Transition → SeenProcess → SeenProcess
+abbrev pub process_moved : (slots pid tid : ℕ) → Transition → SeenProcess → SeenProcess
 process_moved slots pid tid o p = if is_live_seen pid p then process_seen slots tid o p else p
 
 -- all processes
-abbrev pub list_moved : ℕ → ℕ → ℕ → Transition → ProcessList → ProcessList
+abbrev pub list_moved : (slots pid tid : ℕ) → Transition → ProcessList → ProcessList
 list_moved slots pid tid o list = record list { processes = map (process_moved slots pid tid o) list.processes }
 
 -- ---- the changes of the list
@@ -33,11 +33,11 @@ abbrev pub process_changed : ℕ → ProcessAction → SeenProcess → List Seen
 process_changed pid c p = if is_live_seen pid p then own_kept (Some c) p else other_kept pid (Some c) p
 
 -- the child with an id of process pid, which inherits the thread with an id
-abbrev pub child_with : ℕ → ℕ → ℕ → List SeenProcess → List SeenProcess
+abbrev pub child_with : (pid tid child : ℕ) → List SeenProcess → List SeenProcess
 child_with pid tid child processes = flat_map (λ p. if is_live_seen pid p then child_seen tid child p ∷ [] else []) processes
 
 -- the processes after this child was made
-abbrev pub list_with_child : ℕ → ℕ → ℕ → ProcessList → ProcessList
+abbrev pub list_with_child : (pid tid child : ℕ) → ProcessList → ProcessList
 list_with_child pid tid child list =
     let children : List SeenProcess = child_with pid tid child list.processes in
     record { processes = list.processes ++ children; made = list.made + length children }

@@ -7,7 +7,7 @@ use pct_io::NoMemory;
 use pct_model::{Entry, ProcessAction, Relative, Script, Transition};
 use pct_process::ProcessState;
 use pct_set::SlotSet;
-use pct_transitions::{Surroundings, choice_by, takes};
+use pct_transitions::{Surroundings, choice_by, transition_if_offered};
 use std::alloc::Global;
 use std::marker::Model;
 
@@ -158,7 +158,7 @@ impl Place {
         let Some(slot) = self.state.slot_with(entry.tid) else {
             return false;
         };
-        if !takes(around, &self.state, slot, entry.alt, transition) {
+        if !transition_if_offered(around, &self.state, slot, entry.alt, transition) {
             return false;
         }
         make(&mut self.state, slot, transition);

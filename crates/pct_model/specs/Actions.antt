@@ -25,9 +25,9 @@ use Rattle.pct_model.specs.declared.transition.Transition.{Transition}
 use Rattle.pct_model.specs.Cancelability.{ending_state, ending_mode}
 use Rattle.pct_model.specs.CondCalls.{is_waiting_on, unblocked}
 use Rattle.pct_model.specs.Keys.{key_place, with_key, without_key, with_value, without_value, with_pass, without_pass}
-use Rattle.pct_model.specs.OtherThreads.{is_last}
+use Rattle.pct_model.specs.Environment.{is_last}
 use Rattle.pct_model.specs.World.{Thread, SharedState, ProcessEnd, Process, World, new_frame, new_thread}
-use Rattle.pct_model.specs.ThreadSlots.{is_live_thread}
+use Rattle.pct_model.specs.ThreadSlots.{has_valid_id}
 
 -- ---- the thread
 
@@ -83,12 +83,12 @@ own_after (Some own_action.EndLast) t = record t { status = Exiting; ended = tru
 -- any thread of the process after the action that names threads, if there is one
 unfoldable pub named_after : Option NamedAction → Thread → Thread
 named_after None t = t
-named_after (Some (named_action.EndJoin id)) t = if is_live_thread id t then record t { joined = true } else t
+named_after (Some (named_action.EndJoin id)) t = if has_valid_id id t then record t { joined = true } else t
 -- a request for a thread that has ended changes nothing, which is a choice of this host
-named_after (Some (named_action.Request id)) t = if is_live_thread id t && not t.ended then record t { pending = true } else t
-named_after (Some (named_action.Detach id)) t = if is_live_thread id t then record t { detached = true } else t
+named_after (Some (named_action.Request id)) t = if has_valid_id id t && not t.ended then record t { pending = true } else t
+named_after (Some (named_action.Detach id)) t = if has_valid_id id t then record t { detached = true } else t
 -- a thread that waits on a condition variable is unblocked: by a signal, or with all others by a broadcast (XSH pthread_cond_signal)
-named_after (Some (named_action.Wake id)) t = if is_live_thread id t then record t { status = unblocked cause.Signalled t.status } else t
+named_after (Some (named_action.Wake id)) t = if has_valid_id id t then record t { status = unblocked cause.Signalled t.status } else t
 named_after (Some (named_action.WakeAll c)) t = if is_waiting_on c t.status then record t { status = unblocked cause.Broadcast t.status } else t
 -- no thread keeps its value of a key that is deleted
 named_after (Some (named_action.ForgetKey k)) t = record t { specific = without_value (key_place k) t.specific }
@@ -161,7 +161,7 @@ replica_of t = record { id = t.id; detached = t.detached; joined = false; status
 
 -- a thread of the process, as the child has it: the thread with this id called fork, and the child inherits no other one
 unfoldable pub inherited : ℕ → Thread → Thread
-inherited tid t = if is_live_thread tid t then replica_of t else record t { gone = true }
+inherited tid t = if has_valid_id tid t then replica_of t else record t { gone = true }
 
 -- the child, with an id. It inherits what the threads of the process share: the globals, which stand for its memory, the mutexes with
 -- their owners, the semaphores, the keys, and the functions that are registered (XSH fork, pthread_atfork, atexit). Exit has not begun
@@ -194,7 +194,7 @@ moved o t = let at : Thread = thread_at o.next t in own_after o.own (record at {
 
 -- a thread of the process after a transition of the one with an id
 abbrev pub thread_moved : ℕ → Transition → Thread → Thread
-thread_moved tid o t = named_after o.named (if is_live_thread tid t then moved o t else t)
+thread_moved tid o t = named_after o.named (if has_valid_id tid t then moved o t else t)
 
 -- the threads of the process
 abbrev pub threads_moved : ℕ → Transition → List Thread → List Thread

@@ -112,8 +112,8 @@ is_outside wait.Outside = true
 is_outside _ = false
 
 -- a thread that is suspended at the point with an index may return from the call: what it waits for may occur at any time
-unfoldable pub may_return : ℕ → Bool
-may_return index = option_map_or (λ point. is_outside point.wait) (point_at index) false
+unfoldable pub may_pass_point : ℕ → Bool
+may_pass_point index = option_map_or (λ point. is_outside point.wait) (point_at index) false
 
 -- a thread that is suspended at a point goes on
 unfoldable pub passes_point : ℕ → NextStatement → Transition

@@ -22,13 +22,13 @@ use Rattle.pct_model.specs.declared.state.Cause.TheVariants as cause
 use Rattle.pct_model.specs.declared.state.Status.{Status}
 use Rattle.pct_model.specs.declared.state.Status.TheVariants as status
 use Rattle.pct_model.specs.Cancelability.{is_deliverable, is_asynchronous}
-use Rattle.pct_model.specs.CancelCalls.{called_kind, is_required, is_optional, may_return}
+use Rattle.pct_model.specs.CancelCalls.{called_kind, is_required, is_optional, may_pass_point}
 use Rattle.pct_model.specs.Keys.{new_keys, left_keys}
 use Rattle.pct_model.specs.World.{Thread, SharedState, Process, World}
 use Rattle.pct_model.specs.NextStatement.{NextStatement, NoStatement, StatementIn, next_of, body_at}
 use Rattle.pct_model.specs.OtherProcesses.{is_running_child}
 use Rattle.pct_model.specs.MutexCalls.{is_free_mutex, is_blocked}
-use Rattle.pct_model.specs.OtherThreads.{Waiter, Others, is_ended_thread, others_of}
+use Rattle.pct_model.specs.Environment.{Waiter, Environment, is_ended_thread, environment_of}
 use Rattle.pct_model.specs.StopTable.{is_forbidden_in_child}
 
 -- ---- parts of the table
@@ -68,9 +68,9 @@ is_signal (statement.Signal c) = true
 is_signal _ = false
 
 -- the threads that wait on the condition variable that the statement signals, if it is pthread_cond_signal
-abbrev pub waiters_to_signal : Others → Stmt → List Waiter
-waiters_to_signal others (statement.Signal c) = others.waiters c
-waiters_to_signal others _ = []
+abbrev pub waiters_to_signal : Environment → Stmt → List Waiter
+waiters_to_signal environment (statement.Signal c) = environment.waiters c
+waiters_to_signal environment _ = []
 
 -- `pick` for each of these waiters; `go` if there are none
 abbrev pub pick_or_go : List Waiter → List Alt
@@ -101,7 +101,7 @@ dtor_or_go numbers = map (λ n. alt.Dtor n) numbers
 
 -- ---- the table
 
-module _ (body : List Stmt) (shared : SharedState) (t : Thread) (others : Others) where
+module _ (body : List Stmt) (shared : SharedState) (t : Thread) (environment : Environment) where
   -- the rows of a running thread at a statement: the first whose test holds decides, else `go`. `go` at a statement that stops is the
   -- stop (StopTable.antt); a row without `go` comes before the stops of the call, which is a choice of this host
   unfoldable pub running_rows : Frame → Stmt → List ChoiceRow
@@ -121,12 +121,12 @@ module _ (body : List Stmt) (shared : SharedState) (t : Thread) (others : Others
       ∷ (is_blocked s shared, [])
       -- XSH pthread_create: if no slot is free, `go`: the call fails with EAGAIN. That it fails only then, that an ended thread which
       -- is not joined keeps its slot, and which ids are offered are choices of this host
-      ∷ (is_create s, new_or_go others.new_ids)
+      ∷ (is_create s, new_or_go environment.new_ids)
       -- XSH pthread_key_create: if no place is free, `go`: the call fails with EAGAIN. That it fails only then, and which numbers are
       -- offered are choices of this host
       ∷ (is_key_create s, new_or_go (new_keys shared.keys))
       -- XSH pthread_cond_signal: one of the threads that wait is unblocked; if none waits, `go`: the call has no effect
-      ∷ (is_signal s, pick_or_go (waiters_to_signal others s))
+      ∷ (is_signal s, pick_or_go (waiters_to_signal environment s))
       ∷ []
 
   -- the choices of a running thread at a statement
@@ -148,19 +148,19 @@ module _ (body : List Stmt) (shared : SharedState) (t : Thread) (others : Others
   choices_at NoStatement status.Running = []
   -- XSH 2.9.5.2: a suspended thread is awakened by a request and acts upon it; if the event that it waits for occurs before it acts, it
   -- is unspecified whether it acts or goes on: then both are choices
-  choices_at next (status.AtPoint index) = go_if (may_return index) ++ act_if (is_deliverable t.state t.pending)
-  choices_at next (status.Joining id) = go_if (is_ended_thread id others) ++ act_if (is_deliverable t.state t.pending)
+  choices_at next (status.AtPoint index) = go_if (may_pass_point index) ++ act_if (is_deliverable t.state t.pending)
+  choices_at next (status.Joining id) = go_if (is_ended_thread id environment) ++ act_if (is_deliverable t.state t.pending)
   -- XSH sem_wait: the thread is suspended until the count is above 0
   choices_at next (status.InSem s) = go_if (nat_lt 0 (slice_index shared.counts s)) ++ act_if (is_deliverable t.state t.pending)
   -- XSH waitpid: the thread is suspended until the child has ended; also if another thread has reaped it meanwhile, it goes on
-  choices_at next (status.InWaitPid pid) = go_if (not (is_running_child pid others.family)) ++ act_if (is_deliverable t.state t.pending)
+  choices_at next (status.InWaitPid pid) = go_if (not (is_running_child pid environment.family)) ++ act_if (is_deliverable t.state t.pending)
   -- XSH pthread_cond_wait: the thread is blocked until a signal or a broadcast unblocks it. It is not unblocked otherwise, which the
   -- standard allows (spurious wakeups): a choice of this host
   choices_at next (status.Waiting c m) = act_if (is_deliverable t.state t.pending)
   -- XSH pthread_cond_wait: a thread that was unblocked returns, or begins to end, once it can own the mutex. One that was unblocked by a
   -- signal or a broadcast may still act upon a request (XSH 2.9.5.2); if it was by a signal, another thread gets the signal, if one waits
   choices_at next (status.Reacquire c m why) =
-      go_if (is_free_mutex m shared) ++ (if is_deliverable t.state t.pending then unblocked_acts why (others.waiters c) else [])
+      go_if (is_free_mutex m shared) ++ (if is_deliverable t.state t.pending then unblocked_acts why (environment.waiters c) else [])
   choices_at next status.Ending = ending_choices t.handlers
   -- fork is no cancellation point (XSH 2.9.5.2)
   choices_at next (status.Forking at) = alt.Go ∷ []
@@ -170,7 +170,7 @@ module _ (body : List Stmt) (shared : SharedState) (t : Thread) (others : Others
 
 -- the choices of a thread of a process, in a state
 abbrev pub choices_of : Script → Config → World → Process → Thread → List Alt
-choices_of script config w p t = choices_at (body_at script t.frames) p.shared t (others_of config.slots w p t.id) (next_of script t.frames) t.status
+choices_of script config w p t = choices_at (body_at script t.frames) p.shared t (environment_of config.slots w p t.id) (next_of script t.frames) t.status
 
 -- ---- equality of choices, and membership
 

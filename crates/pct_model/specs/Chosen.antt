@@ -37,5 +37,5 @@ abbrev pub entry_for : ℕ → ℕ → Candidate → Option Entry
 entry_for worker b c = option_map (λ choice. record { worker = worker; pid = c.pid; tid = c.tid; alt = choice }) (item_at c.choices b)
 
 -- the entry that a worker's two numbers choose, if the run was not stopped and a thread is ready
-unfoldable pub chosen : Script → Config → World → ℕ → ℕ → ℕ → Option Entry
+unfoldable pub chosen : Script → Config → World → (worker a b : ℕ) → Option Entry
 chosen script config w worker a b = if is_none w.stop then option_and_then (entry_for worker b) (item_at (candidates script config w) a) else None

@@ -7,7 +7,7 @@ use Rattle.pct_model.specs.declared.transition.Transition.{Transition}
 use Rattle.pct_model.specs.Transitions.{goes_on, no_change}
 
 -- pthread_cleanup_push: a function and its argument become the newest handler
-unfoldable pub pushes : ℕ → ℕ → ℕ → Transition
+unfoldable pub pushes : (next f v : ℕ) → Transition
 pushes next f v = record (goes_on next (Pushed f v ∷ [])) { own = Some (own_action.PushHandler f v) }
 
 -- pthread_cleanup_pop with an argument: the newest of these handlers is removed, and called if the argument is not 0

@@ -41,7 +41,7 @@ begins_wait c m = record (acts (what.Called cond_wait_point ∷ what.Released m 
 
 -- a thread that was unblocked owns its mutex again, and returns; or, if it acted upon a request, begins to end, so that it owns the mutex
 -- before its first cleanup handler (XSH pthread_cond_wait)
-unfoldable pub reacquires : ℕ → ℕ → ℕ → Cause → NextStatement → Transition
+unfoldable pub reacquires : (id c m : ℕ) → Cause → NextStatement → Transition
 reacquires id c m cause.Canceled next = record (acts (what.Acquired m ∷ what.EndingInWait c m ∷ [])) { own = Some (own_action.BeginEnd Canceled); shared = Some (shared_action.OwnMutex m id) }
 reacquires id c m why (StatementIn frame (statement.CondWait cond mutex)) =
     record (goes_on (suc frame.pc) (what.Acquired m ∷ what.Done cond_wait_point ∷ [])) { shared = Some (shared_action.OwnMutex m id) }
@@ -53,7 +53,7 @@ leaves_wait c m = record (acts (what.WaitCanceled c ∷ [])) { own = Some (own_a
 
 -- a thread that a signal unblocked acts upon a request: it must not consume the signal if other threads are blocked on the condition
 -- variable (XSH pthread_cond_wait). This host hands it on to the thread with id u, where u is not 0
-unfoldable pub hands_on : ℕ → ℕ → ℕ → Transition
+unfoldable pub hands_on : (u c m : ℕ) → Transition
 hands_on u c m = if nat_eq u 0 then leaves_wait c m else record (acts (what.WaitCanceled c ∷ what.HandedOn c u ∷ [])) { own = Some (own_action.SetStatus (status.Reacquire c m cause.Canceled)); named = Some (named_action.Wake u) }
 
 -- ---- pthread_cond_signal, pthread_cond_broadcast
@@ -66,5 +66,5 @@ signals_by alt.Go next c = goes_on next (what.Signalled c 0 ∷ [])
 signals_by _ next c = no_change
 
 -- a broadcast unblocks all threads that wait; the event has their number
-unfoldable pub broadcasts : ℕ → ℕ → ℕ → Transition
+unfoldable pub broadcasts : (next c waiting : ℕ) → Transition
 broadcasts next c waiting = record (goes_on next (what.BroadcastTo c waiting ∷ [])) { named = Some (named_action.WakeAll c) }

@@ -50,7 +50,7 @@ total_of [] = 0
 total_of (e ∷ events) = option_map_or (λ value. value) (emitted e.what) (total_of events)
 
 -- the lines of a summary: `demo N`, `threads W`, `rounds R`, `steps S`, `total T`, and the verdict
-unfoldable pub summary_lines : ℕ → ℕ → ℕ → Verdict → List (List (List ℕ))
+unfoldable pub summary_lines : (number steps total : ℕ) → Verdict → List (List (List ℕ))
 summary_lines number steps total v =
     (keyword_text keyword.Demo ∷ decimal number ∷ [])
     ∷ (keyword_text keyword.Threads ∷ decimal (threads_of number) ∷ [])

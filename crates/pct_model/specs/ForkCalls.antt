@@ -139,7 +139,7 @@ begins_waitpid (Some child) pid next result = record (acts (what.Called waitpid_
 begins_waitpid None pid next result = finds_no_child next result
 
 -- the thread returns from waitpid with the status of a child, which is reaped
-unfoldable pub reaps : ℕ → ℕ → ℕ → Dest → Dest → Transition
+unfoldable pub reaps : (status pid next : ℕ) → Dest → Dest → Transition
 reaps status pid next result value = record (goes_on next (what.Reaped pid status ∷ [])) { writes = (result, 0) ∷ (value, status) ∷ []; process = Some (process_action.Reap pid) }
 
 -- so it does once the child has ended with a status

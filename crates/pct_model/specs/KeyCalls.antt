@@ -37,7 +37,7 @@ unfoldable pub deletes_key : ℕ → ℕ → Transition
 deletes_key next k = record (goes_on next (what.KeyGone k ∷ [])) { shared = Some (shared_action.DeleteKey k); named = Some (named_action.ForgetKey k) }
 
 -- the thread's value of a key becomes v
-unfoldable pub sets_specific : ℕ → ℕ → ℕ → Transition
+unfoldable pub sets_specific : (next k v : ℕ) → Transition
 sets_specific next k v = record (goes_on next []) { own = Some (own_action.SetSpecific k v) }
 
 -- the thread gets its value v of a key

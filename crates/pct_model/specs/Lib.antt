@@ -21,7 +21,7 @@ pub mod World
 pub mod ThreadSlots
 pub mod NextStatement
 pub mod OtherProcesses
-pub mod OtherThreads
+pub mod Environment
 pub mod Transitions
 pub mod ScriptStatements
 pub mod CleanupHandlers

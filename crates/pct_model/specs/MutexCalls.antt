@@ -24,7 +24,7 @@ is_blocked (statement.Lock m) shared = not (is_free_mutex m shared)
 is_blocked s shared = false
 
 -- pthread_mutex_lock: the thread with this id owns mutex m
-unfoldable pub locks : ℕ → ℕ → ℕ → Transition
+unfoldable pub locks : (next m id : ℕ) → Transition
 locks next m id = record (goes_on next (what.Acquired m ∷ [])) { shared = Some (shared_action.OwnMutex m id) }
 
 -- pthread_mutex_unlock: mutex m has no owner. Which thread owns it next is not decided here: each one at pthread_mutex_lock, and each

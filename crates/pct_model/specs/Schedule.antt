@@ -90,7 +90,7 @@ is_end n line = is_end_of_words n (words_of line)
 -- Below, n is the number of a line in the text, counted from 1, and k the number of entries before it.
 
 -- the entry of line n: it has to be legal text and within the budget
-abbrev pub read_entry : ℕ → ℕ → ℕ → Option Entry → Read Entry
+abbrev pub read_entry : (n budget k : ℕ) → Option Entry → Read Entry
 read_entry n budget k None = Err (n, why.BadEntry)
 read_entry n budget k (Some e) = if nat_lt k budget then Ok e else Err (n, why.TooMany)
 
@@ -110,7 +110,7 @@ prepend_entry (Ok e) (Err fault) = Err fault
 prepend_entry (Ok e) (Ok entries) = Ok (e ∷ entries)
 
 -- the entries of the lines from line n on: each line before the first that begins with `end ` is an entry
-unfoldable pub entries_from : ℕ → ℕ → ℕ → List (List ℕ) → Read (List Entry)
+unfoldable pub entries_from : (n budget k : ℕ) → List (List ℕ) → Read (List Entry)
 entries_from n budget k [] = Err (n, why.BadEnd)
 entries_from n budget k (line ∷ lines) =
     if begins (keyword_text keyword.End) line

@@ -34,7 +34,7 @@ unfoldable pub adds : ℕ → Dest → ℕ → ℕ → Transition
 adds next d old v = sets next d ((old + v) % 4294967296)
 
 -- `do`: a call of a function
-unfoldable pub calls : ℕ → ℕ → ℕ → Transition
+unfoldable pub calls : (next f v : ℕ) → Transition
 calls next f v = record (goes_on next []) { own = Some (own_action.Call f v kind.Call) }
 
 -- ---- jumps

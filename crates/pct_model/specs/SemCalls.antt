@@ -20,12 +20,12 @@ unfoldable pub begins_sem_wait : ℕ → Transition
 begins_sem_wait s = record (acts (what.Called sem_wait_point ∷ [])) { own = Some (own_action.SetStatus (status.InSem s)) }
 
 -- the thread decrements the count of semaphore s, and returns from sem_wait
-unfoldable pub takes : ℕ → ℕ → NextStatement → Transition
-takes s count (StatementIn frame (statement.SemWait sem)) = record (goes_on (suc frame.pc) (what.Taken s ∷ [])) { shared = Some (shared_action.SetCount s (count - 1)) }
-takes s count next = no_change
+unfoldable pub ends_sem_wait : ℕ → ℕ → NextStatement → Transition
+ends_sem_wait s count (StatementIn frame (statement.SemWait sem)) = record (goes_on (suc frame.pc) (what.Taken s ∷ [])) { shared = Some (shared_action.SetCount s (count - 1)) }
+ends_sem_wait s count next = no_change
 
 -- sem_post: the count of semaphore s is incremented. Which thread returns from sem_wait then, also one that calls it later, is not decided
 -- here: a choice of this host. The sum wraps, as every sum of this host does, but no run gets there: an initial count is small, and a run
 -- has few steps
-unfoldable pub posts : ℕ → ℕ → ℕ → Transition
+unfoldable pub posts : (next s count : ℕ) → Transition
 posts next s count = record (goes_on next (what.Posted s ∷ [])) { shared = Some (shared_action.SetCount s (suc count % 4294967296)) }

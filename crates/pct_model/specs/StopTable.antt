@@ -20,7 +20,7 @@ use Rattle.pct_model.specs.Jumps.{open_of}
 use Rattle.pct_model.specs.Keys.{key_with}
 use Rattle.pct_model.specs.World.{Thread, SharedState, value_of}
 use Rattle.pct_model.specs.MutexCalls.{owns}
-use Rattle.pct_model.specs.OtherThreads.{Others, no_live_thread, is_detached_thread, waits_with_another_mutex}
+use Rattle.pct_model.specs.Environment.{Environment, names_no_thread, is_detached_thread, waits_with_another_mutex}
 
 -- a test: whether a stop applies, and the stop
 abbrev pub StopTest : Type 0
@@ -121,7 +121,7 @@ is_forbidden_in_child body shared frame s = shared.restricted && (not (is_fork_k
 
 -- ---- the table
 
-module _ (body : List Stmt) (shared : SharedState) (t : Thread) (others : Others) where
+module _ (body : List Stmt) (shared : SharedState) (t : Thread) (environment : Environment) where
   -- the value of an operand
   abbrev pub value : Frame → Operand → ℕ
   value frame operand = value_of shared.globals frame operand
@@ -140,19 +140,19 @@ module _ (body : List Stmt) (shared : SharedState) (t : Thread) (others : Others
   -- XSH 2.9.2), or the thread is detached (NotJoinable); if it is the caller (JoinSelf); or if another join of it is in progress
   -- (JoinTwice). "Joined" is the return of pthread_join, not its call: this host's reading. The order of the tests is a choice of this host
   stops_of frame (statement.Join id d) =
-      (no_live_thread (value frame id) others, why.ThreadId)
+      (names_no_thread (value frame id) environment, why.ThreadId)
       ∷ (nat_eq (value frame id) t.id, why.JoinSelf)
-      ∷ (is_detached_thread (value frame id) others, why.NotJoinable)
-      ∷ (others.another_joins (value frame id), why.JoinTwice)
+      ∷ (is_detached_thread (value frame id) environment, why.NotJoinable)
+      ∷ (environment.another_joins (value frame id), why.JoinTwice)
       ∷ []
   -- XSH pthread_detach: as for pthread_join; that a detach during a join is a stop is a choice of this host
   stops_of frame (statement.Detach id) =
-      (no_live_thread (value frame id) others, why.ThreadId)
-      ∷ (is_detached_thread (value frame id) others, why.NotJoinable)
-      ∷ (others.another_joins (value frame id), why.DetachJoined)
+      (names_no_thread (value frame id) environment, why.ThreadId)
+      ∷ (is_detached_thread (value frame id) environment, why.NotJoinable)
+      ∷ (environment.another_joins (value frame id), why.DetachJoined)
       ∷ []
   -- XSH 2.9.2, for pthread_cancel: the lifetime of the id is over; an id that no thread had is treated alike
-  stops_of frame (statement.CancelThread id) = (no_live_thread (value frame id) others, why.ThreadId) ∷ []
+  stops_of frame (statement.CancelThread id) = (names_no_thread (value frame id) environment, why.ThreadId) ∷ []
   -- XSH pthread_exit: a call from a handler or destructor that ran as a result of an implicit or explicit call of pthread_exit; that
   -- this includes one which a request called is a choice of this host. A thread that has begun to end runs nothing else, so its
   -- reason decides
@@ -172,7 +172,7 @@ module _ (body : List Stmt) (shared : SharedState) (t : Thread) (others : Others
   stops_of frame (statement.Unlock m) = (not (owns t.id m shared), why.NotOwner) ∷ []
   -- XSH pthread_cond_wait: undefined if the caller does not own the mutex, or if a thread is blocked on the condition variable with another
   -- mutex; one that was unblocked and has not returned yet counts no longer. The order of the tests is a choice of this host
-  stops_of frame (statement.CondWait c m) = (not (owns t.id m shared), why.NotOwner) ∷ (waits_with_another_mutex c m others, why.CondTwoMutexes) ∷ []
+  stops_of frame (statement.CondWait c m) = (not (owns t.id m shared), why.NotOwner) ∷ (waits_with_another_mutex c m environment, why.CondTwoMutexes) ∷ []
   -- a limit of this host
   stops_of frame (statement.Fork result child) = (has_begun_to_end t.reason, why.ForkInEnding) ∷ []
   -- XSH exit: undefined if it is called more than once

@@ -19,7 +19,7 @@ use Rattle.pct_model.specs.Transitions.{goes_on, creates_thread, acts, no_change
 -- ---- pthread_create
 
 -- a thread is created with an id: the result is 0
-unfoldable pub creates : ℕ → Dest → Dest → ℕ → ℕ → ℕ → Bool → Transition
+unfoldable pub creates : ℕ → Dest → Dest → (new f v : ℕ) → Bool → Transition
 creates next result id new f v detached =
     record (creates_thread next (record { id = new; detached = detached; func = f; arg = v }) (what.Created new detached ∷ [])) { writes = (result, 0) ∷ (id, new) ∷ [] }
 

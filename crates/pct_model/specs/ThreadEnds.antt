@@ -38,7 +38,7 @@ ends_thread false left v = record (acts (leftover left ++ what.EndedWith v ∷ [
 ends_thread true left v = record (acts (leftover left ++ what.EndedWith v ∷ what.ExitBegun 0 ∷ [])) { own = Some own_action.EndLast; shared = Some (shared_action.BeginExit 0) }
 
 -- the destructor of a key is called in a pass with the thread's value of the key, which is NULL then (XSH pthread_key_create)
-unfoldable pub calls_destructor : ℕ → ℕ → ℕ → Option ℕ → Transition
+unfoldable pub calls_destructor : (pass k value : ℕ) → Option ℕ → Transition
 calls_destructor pass k value (Some f) = record (acts (what.DtorRun pass k f value ∷ [])) { own = Some (own_action.RunDestructor k f value) }
 calls_destructor pass k value None = no_change
 

@@ -63,9 +63,9 @@ by_slot slots threads = flat_map (λ s. filter (λ t. is_on slots s t && holds_s
 -- ---- lookup
 
 -- the thread has this id and holds its slot: the lifetime of a thread id ends when its thread is reclaimed (XSH 2.9.2)
-abbrev pub is_live_thread : ℕ → Thread → Bool
-is_live_thread id t = nat_eq t.id id && holds_slot t
+abbrev pub has_valid_id : ℕ → Thread → Bool
+has_valid_id id t = nat_eq t.id id && holds_slot t
 
 -- the first thread that has this id and holds its slot
 abbrev pub with_id : ℕ → List Thread → Option Thread
-with_id id threads = find (is_live_thread id) threads
+with_id id threads = find (has_valid_id id) threads

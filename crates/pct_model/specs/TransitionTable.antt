@@ -17,7 +17,7 @@ use Rattle.pct_model.specs.declared.transition.Transition.{Transition}
 use Rattle.pct_model.specs.Jumps.{open_of}
 use Rattle.pct_model.specs.World.{Thread, SharedState, Process, World, value_of}
 use Rattle.pct_model.specs.NextStatement.{NextStatement, StatementIn, next_of, body_at}
-use Rattle.pct_model.specs.OtherThreads.{Others, exit_value_with, others_of}
+use Rattle.pct_model.specs.Environment.{Environment, exit_value_with, environment_of}
 use Rattle.pct_model.specs.Transitions.{no_change, stops}
 use Rattle.pct_model.specs.ScriptStatements.{jumps, emits, sets, adds, variable_value, calls, after_block, after_test, after_end}
 use Rattle.pct_model.specs.CleanupHandlers.{pushes, pops}
@@ -26,7 +26,7 @@ use Rattle.pct_model.specs.Keys.{key_place, value_at}
 use Rattle.pct_model.specs.KeyCalls.{creates_key_by, deletes_key, sets_specific, gets_specific}
 use Rattle.pct_model.specs.MutexCalls.{locks, unlocks}
 use Rattle.pct_model.specs.CondCalls.{begins_wait, reacquires, signals_by, broadcasts}
-use Rattle.pct_model.specs.SemCalls.{begins_sem_wait, takes, posts}
+use Rattle.pct_model.specs.SemCalls.{begins_sem_wait, ends_sem_wait, posts}
 use Rattle.pct_model.specs.ForkCalls.{registers_fork, begins_fork, next_handler, goes_on_forking, begins_waitpid, waits_at}
 use Rattle.pct_model.specs.ThreadCalls.{creates_by, begins_join, joins_at, detaches, gets_self}
 use Rattle.pct_model.specs.ThreadEnds.{ends_by_exit, goes_on_ending}
@@ -45,7 +45,7 @@ stops_or None other = other
 
 -- ---- the table
 
-module _ (passes : ℕ) (body : List Stmt) (shared : SharedState) (t : Thread) (others : Others) (choice : Alt) where
+module _ (passes : ℕ) (body : List Stmt) (shared : SharedState) (t : Thread) (environment : Environment) (choice : Alt) where
   -- the value of an operand
   abbrev pub value : Frame → Operand → ℕ
   value frame operand = value_of shared.globals frame operand
@@ -89,13 +89,13 @@ module _ (passes : ℕ) (body : List Stmt) (shared : SharedState) (t : Thread) (
   runs frame (statement.Unlock m) = unlocks (suc frame.pc) m
   runs frame (statement.CondWait c m) = begins_wait c m
   runs frame (statement.Signal c) = signals_by choice (suc frame.pc) c
-  runs frame (statement.Broadcast c) = broadcasts (suc frame.pc) c (length (others.waiters c))
+  runs frame (statement.Broadcast c) = broadcasts (suc frame.pc) c (length (environment.waiters c))
   runs frame (statement.SemWait s) = begins_sem_wait s
   runs frame (statement.SemPost s) = posts (suc frame.pc) s (slice_index shared.counts s)
   -- XSH pthread_atfork, fork, waitpid
   runs frame (statement.AtFork result prepare parent child) = registers_fork (length shared.fork_handlers) (suc frame.pc) result (record { prepare = prepare; parent = parent; child = child })
   runs frame (statement.Fork result child) = begins_fork (length shared.fork_handlers)
-  runs frame (statement.WaitPid result pid d) = begins_waitpid (others.family.child (value frame pid)) (value frame pid) (suc frame.pc) result
+  runs frame (statement.WaitPid result pid d) = begins_waitpid (environment.family.child (value frame pid)) (value frame pid) (suc frame.pc) result
   -- XSH atexit, exit, _exit
   runs frame (statement.AtExit result f) = registers_if (may_register shared) (suc frame.pc) result f
   runs frame (statement.ProcExit v) = exits (value frame v)
@@ -106,21 +106,21 @@ module _ (passes : ℕ) (body : List Stmt) (shared : SharedState) (t : Thread) (
   -- what a thread does as it goes on by the choice, by its status
   unfoldable pub transition_at : NextStatement → Status → Transition
   -- the stop, or what the statement does
-  transition_at (StatementIn frame s) status.Running = stops_or (stop_at body shared t others frame s) (runs frame s)
+  transition_at (StatementIn frame s) status.Running = stops_or (stop_at body shared t environment frame s) (runs frame s)
   -- XSH 2.9.5.2: the event that the thread waits for has occurred
   transition_at next (status.AtPoint index) = passes_point index next
   -- XSH pthread_join: the target has terminated
-  transition_at next (status.Joining id) = joins_at (exit_value_with id others) id next
+  transition_at next (status.Joining id) = joins_at (exit_value_with id environment) id next
   -- XSH sem_wait: the count is above 0
-  transition_at next (status.InSem s) = takes s (slice_index shared.counts s) next
+  transition_at next (status.InSem s) = ends_sem_wait s (slice_index shared.counts s) next
   -- XSH waitpid: the child has ended, or there is no such child any more
-  transition_at next (status.InWaitPid pid) = waits_at (others.family.child pid) pid next
+  transition_at next (status.InWaitPid pid) = waits_at (environment.family.child pid) pid next
   -- XSH pthread_cond_wait: the mutex has no owner
   transition_at next (status.Reacquire c m why) = reacquires t.id c m why next
   -- XSH 2.9.5.3, pthread_exit, pthread_key_create: cleanup handlers, then destructors, then the end
-  transition_at next status.Ending = goes_on_ending others.is_last passes shared.keys t choice t.handlers
+  transition_at next status.Ending = goes_on_ending environment.is_last passes shared.keys t choice t.handlers
   -- XSH fork
-  transition_at next (status.Forking at) = goes_on_forking (next_handler shared.fork_handlers at) at others.family.new_pid next
+  transition_at next (status.Forking at) = goes_on_forking (next_handler shared.fork_handlers at) at environment.family.new_pid next
   -- XSH exit
   transition_at next status.Exiting = goes_on_exiting shared.exit_functions shared.exit_value
   -- no choice by which it goes on is offered to any other thread (ChoiceTable.antt)
@@ -133,4 +133,4 @@ acts_or _ s goes = goes
 
 -- what a thread of a process does by a choice, in a state
 abbrev pub transition_by : Script → Config → World → Process → Thread → Alt → Transition
-transition_by script config w p t choice = acts_or choice t.status (transition_at config.passes (body_at script t.frames) p.shared t (others_of config.slots w p t.id) choice (next_of script t.frames) t.status)
+transition_by script config w p t choice = acts_or choice t.status (transition_at config.passes (body_at script t.frames) p.shared t (environment_of config.slots w p t.id) choice (next_of script t.frames) t.status)

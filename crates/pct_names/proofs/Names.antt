@@ -148,13 +148,13 @@ pub use Rattle.pct_model.specs.declared.transition.OwnAction.{OwnAction}
 pub use Rattle.pct_model.specs.declared.transition.ProcessAction.{ProcessAction}
 pub use Rattle.pct_model.specs.declared.transition.SharedAction.{SharedAction}
 pub use Rattle.pct_model.specs.declared.transition.Transition.{Transition}
-pub use Rattle.pct_model.specs.Actions.{as_reaped, at_pc, changed, frames_written, globals_written, has_ended, in_child, is_live_process, moved}
-pub use Rattle.pct_model.specs.Actions.{orphaned, process_made, process_moved, replica_of, set_local, shared_moved, thread_created}
+pub use Rattle.pct_model.specs.Actions.{as_reaped, at_pc, changed, frames_written, globals_written, has_ended, in_child, is_live_process}
+pub use Rattle.pct_model.specs.Actions.{moved, orphaned, process_made, process_moved, replica_of, set_local, shared_moved, thread_created}
 pub use Rattle.pct_model.specs.Actions.{thread_moved, threads_moved, without_first, written}
 unfoldable pub use Rattle.pct_model.specs.Actions.{after_transition, child_by, child_of, inherited, named_after, other_process_after}
 unfoldable pub use Rattle.pct_model.specs.Actions.{own_after, process_after, shared_after, stop_after, thread_at}
 pub use Rattle.pct_model.specs.CancelCalls.{is_optional, is_required, mode_if, mode_number, state_if, state_number, testcancel_point}
-unfoldable pub use Rattle.pct_model.specs.CancelCalls.{acts_on_request, called_kind, calls_point, may_return, passes_point, point_kind}
+unfoldable pub use Rattle.pct_model.specs.CancelCalls.{acts_on_request, called_kind, calls_point, may_pass_point, passes_point, point_kind}
 unfoldable pub use Rattle.pct_model.specs.CancelCalls.{requests, sets_mode, sets_state, tests_cancel}
 pub use Rattle.pct_model.specs.Cancelability.{ending_mode, ending_state, is_asynchronous, is_deliverable}
 pub use Rattle.pct_model.specs.Canon.{canon, declaration_line, flag_text, symbol_kind_at}
@@ -211,10 +211,10 @@ unfoldable pub use Rattle.pct_model.specs.Nesting.{are_nested, change_at, inside
 pub use Rattle.pct_model.specs.NextStatement.{NextStatement, NoStatement, StatementIn, body_at, next_in, next_of}
 pub use Rattle.pct_model.specs.OtherProcesses.{Family, family_of, is_running_child, is_unreaped, pid_after, relative_of}
 unfoldable pub use Rattle.pct_model.specs.OtherProcesses.{family_among}
-pub use Rattle.pct_model.specs.OtherThreads.{Others, Waiter, exit_value_of, exit_value_with, is_detached_thread, is_ended_thread}
-pub use Rattle.pct_model.specs.OtherThreads.{is_joined_by_one, is_joining, is_last, no_live_thread, waiter_by, waiters_among}
-pub use Rattle.pct_model.specs.OtherThreads.{waits_with_another_mutex}
-unfoldable pub use Rattle.pct_model.specs.OtherThreads.{others_of}
+pub use Rattle.pct_model.specs.Environment.{Environment, Waiter, exit_value_of, exit_value_with, is_detached_thread, is_ended_thread}
+pub use Rattle.pct_model.specs.Environment.{is_joined_by_one, is_joining, is_last, names_no_thread, waiter_by, waiters_among}
+pub use Rattle.pct_model.specs.Environment.{waits_with_another_mutex}
+unfoldable pub use Rattle.pct_model.specs.Environment.{environment_of}
 pub use Rattle.pct_model.specs.Outcome.{Demonstrates, Outcome, Ran, Runs, asks_demo, is_accepted, needs_input}
 unfoldable pub use Rattle.pct_model.specs.Outcome.{code_of_verdict, is_asked, refused_entry, refused_input, refused_schedule}
 unfoldable pub use Rattle.pct_model.specs.Outcome.{refused_script, refused_words, schedule_part, script_part}
@@ -241,7 +241,7 @@ pub use Rattle.pct_model.specs.Sections.{declaring, functions_in, is_declaration
 pub use Rattle.pct_model.specs.Sections.{names_declared, names_in, parsed_numbered, prepend_line, role_in, sections_of}
 unfoldable pub use Rattle.pct_model.specs.Sections.{parsed_lines, split_sections}
 pub use Rattle.pct_model.specs.SemCalls.{sem_wait_point}
-unfoldable pub use Rattle.pct_model.specs.SemCalls.{begins_sem_wait, posts, takes}
+unfoldable pub use Rattle.pct_model.specs.SemCalls.{begins_sem_wait, ends_sem_wait, posts}
 pub use Rattle.pct_model.specs.Spelling.{Fault, first_of}
 unfoldable pub use Rattle.pct_model.specs.Spelling.{fault_at, fault_of_words, faulty_word, misspelled, spelling, why_not}
 pub use Rattle.pct_model.specs.Spells.{AreContents, Spells, SpellsBody, SpellsContents, contents_of, encoded}
@@ -266,7 +266,7 @@ unfoldable pub use Rattle.pct_model.specs.ThreadCalls.{begins_join, creates, det
 pub use Rattle.pct_model.specs.ThreadEnds.{due_keys, end_value}
 unfoldable pub use Rattle.pct_model.specs.ThreadEnds.{calls_destructor, ends_by_exit, ends_thread, goes_on_ending}
 pub use Rattle.pct_model.specs.ThreadNumbers.{ForksMade, HasProcessNumbers, HasThreadNumbers, IsOfThread, NumbersThreads}
-pub use Rattle.pct_model.specs.ThreadSlots.{by_slot, exits_after_its_end, holds_slot, is_ended_status, is_free, is_live_thread, is_on}
+pub use Rattle.pct_model.specs.ThreadSlots.{by_slot, exits_after_its_end, has_valid_id, holds_slot, is_ended_status, is_free, is_on}
 pub use Rattle.pct_model.specs.ThreadSlots.{is_unreclaimed, next_id, slot_of, was_reclaimed, with_id}
 unfoldable pub use Rattle.pct_model.specs.ThreadSlots.{free_ids}
 pub use Rattle.pct_model.specs.TransitionTable.{acts_or, ends_block, stops_or, transition_by}

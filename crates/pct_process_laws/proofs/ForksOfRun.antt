@@ -1,11 +1,11 @@
 -- After every run, the fork of each thread: in a fork handler a thread has the frame of a plain function on top, and the kept values of
 -- its fork; otherwise it has neither.
-use Rattle.pct_names.proofs.Names.{◌<◌, [], All-from_recursion, ap, arith, at_pc, body_at, Bool, cond, Config, Dest, encode, false}
-use Rattle.pct_names.proofs.Names.{false≢true, ForkAt, Frame, FrameKind, frames_written, inl, inr, is_fork_kind, is_some, length, List}
-use Rattle.pct_names.proofs.Names.{list_any, main_of, MAX_FRAMES, moved, names_of, new_frame, next_of, NextStatement, None, Option, or_from}
-use Rattle.pct_names.proofs.Names.{or_parts, Others, others_of, own_after, OwnAction, refl, Script, set_local, SharedState, Some, Status}
-use Rattle.pct_names.proofs.Names.{Stmt, subst, suc, sym, syntax_of, Thread, thread_at, Transition, true, value_of, without_first, written}
-use Rattle.pct_names.proofs.Names.{◌||◌, ℕ, ◌∙◌, ◌∷◌, ◌≡◌, ◌≤◌, ◌⊎◌}
+use Rattle.pct_names.proofs.Names.{◌<◌, [], All-from_recursion, ap, arith, at_pc, body_at, Bool, cond, Config, Dest, encode, Environment}
+use Rattle.pct_names.proofs.Names.{environment_of, false, false≢true, ForkAt, Frame, FrameKind, frames_written, inl, inr, is_fork_kind}
+use Rattle.pct_names.proofs.Names.{is_some, length, List, list_any, main_of, MAX_FRAMES, moved, names_of, new_frame, next_of, NextStatement}
+use Rattle.pct_names.proofs.Names.{None, Option, or_from, or_parts, own_after, OwnAction, refl, Script, set_local, SharedState, Some}
+use Rattle.pct_names.proofs.Names.{Status, Stmt, subst, suc, sym, syntax_of, Thread, thread_at, Transition, true, value_of, without_first}
+use Rattle.pct_names.proofs.Names.{written, ◌||◌, ℕ, ◌∙◌, ◌∷◌, ◌≡◌, ◌≤◌, ◌⊎◌}
 use Rattle.std.proofs.lemmas.Bool.{leb-true}
 use Rattle.pct_model.specs.declared.state.FrameKind.TheVariants as kind
 use Rattle.pct_model.specs.declared.state.Status.TheVariants as status
@@ -144,21 +144,21 @@ moved_outside o stays t out =
 
 module _ (script : Script) (passes : ℕ) (shared : SharedState) (registered : RegistersPlain script shared) where
   -- a thread outside of fork handlers
-  case_outside : (t : Thread) (others : Others) {body : List Stmt} {next : NextStatement} {s : Status} {o : Transition} → TransitionCase passes body shared t others true next s o → Outside t.frames t.kept → ForkFits script (view script (moved o t))
+  case_outside : (t : Thread) (environment : Environment) {body : List Stmt} {next : NextStatement} {s : Status} {o : Transition} → TransitionCase passes body shared t environment true next s o → Outside t.frames t.kept → ForkFits script (view script (moved o t))
   unfolding thread_at own_after
-  case_outside t others (function_called frame f v room) out = inl (called_outside (suc frame.pc) f (value_of shared.globals frame v) kind.Call refl t.frames t.kept room out)
-  case_outside t others (handler_called frame v f a handlers is room not_zero) out = inl (called_outside (suc frame.pc) f a kind.PopHandler refl t.frames t.kept room out)
-  case_outside t others (fork_handler_called next at call is) out = inr (record {
+  case_outside t environment (function_called frame f v room) out = inl (called_outside (suc frame.pc) f (value_of shared.globals frame v) kind.Call refl t.frames t.kept room out)
+  case_outside t environment (handler_called frame v f a handlers is room not_zero) out = inl (called_outside (suc frame.pc) f a kind.PopHandler refl t.frames t.kept room out)
+  case_outside t environment (fork_handler_called next at call is) out = inr (record {
     runs = refl;
     is_handler = refl;
     plain = next_plain script shared.fork_handlers registered.fork_handlers at call is;
     keeps = refl;
     rest = record { none = out.none; not_kept = refl; depth = out.depth };
   })
-  case_outside t others {o = o} _ out = inl (moved_outside o refl t out)
+  case_outside t environment {o = o} _ out = inl (moved_outside o refl t out)
 
   -- in a fork handler, the function of which is plain
-  module _ (t : Thread) (others : Others) (frame : Frame) (below : List Frame) (inside : Inside script true (frame ∷ below) t.kept) where
+  module _ (t : Thread) (environment : Environment) (frame : Frame) (below : List Frame) (inside : Inside script true (frame ∷ below) t.kept) where
     -- the thread in it
     abbrev own : Thread
     own = record t { status = status.Running; frames = frame ∷ below }
@@ -169,7 +169,7 @@ module _ (script : Script) (passes : ℕ) (shared : SharedState) (registered : R
     written_inside _ v pc = inside
 
     -- its transitions
-    case_inside : {body : List Stmt} {next : NextStatement} {o : Transition} → TransitionCase passes body shared own others true next status.Running o → is_plain_next next ≡ true → ForkFits script (view script (moved o own))
+    case_inside : {body : List Stmt} {next : NextStatement} {o : Transition} → TransitionCase passes body shared own environment true next status.Running o → is_plain_next next ≡ true → ForkFits script (view script (moved o own))
     unfolding thread_at own_after encode syntax_of
     case_inside (rests next s alive) plain = inr inside
     case_inside (stopped _ s why) plain = inr inside
@@ -190,12 +190,12 @@ module _ (script : Script) (passes : ℕ) (shared : SharedState) (registered : R
     case_inside _ plain = absurd (false≢true plain)
 
   -- any thread
-  case_fits : (t : Thread) (others : Others) (s : Status) (frames : List Frame) {body : List Stmt} {next : NextStatement} {o : Transition} → IsPlaced script frames body next → TransitionCase passes body shared (record t { status = s; frames = frames }) others true next s o
+  case_fits : (t : Thread) (environment : Environment) (s : Status) (frames : List Frame) {body : List Stmt} {next : NextStatement} {o : Transition} → IsPlaced script frames body next → TransitionCase passes body shared (record t { status = s; frames = frames }) environment true next s o
       → ForkFits script (is_running s, frames, t.kept) → ForkFits script (view script (moved o (record t { status = s; frames = frames })))
-  case_fits t others s frames placed c (inl out) = case_outside (record t { status = s; frames = frames }) others c out
-  case_fits t others s [] placed c (inr inside) = absurd inside
-  case_fits t others status.Running (frame ∷ below) placed c (inr inside) = case_inside t others frame below inside c (plain_next script frame below inside.plain placed)
-  case_fits t others _ (frame ∷ below) placed c (inr inside) = absurd (false≢true inside.runs)
+  case_fits t environment s frames placed c (inl out) = case_outside (record t { status = s; frames = frames }) environment c out
+  case_fits t environment s [] placed c (inr inside) = absurd inside
+  case_fits t environment status.Running (frame ∷ below) placed c (inr inside) = case_inside t environment frame below inside c (plain_next script frame below inside.plain placed)
+  case_fits t environment _ (frame ∷ below) placed c (inr inside) = absurd (false≢true inside.runs)
 
 -- ---- in the sentences of Kept.antt
 
@@ -249,8 +249,8 @@ module _ (script : Script) (config : Config) where
     created = λ w p t k choice new registered offered fits is. inl (one_frame (new_frame new.func new.arg kind.Start) refl None refl);
     named = λ a t k fits. subst (ForkFits script) (sym (named_keeps (view script) (λ t j p d k s is. ap (λ (runs : Bool). (runs, t.frames, t.kept)) (same_settled is_running (λ c m why. refl) s t.status is)) a t)) fits;
     kept = λ w p t k choice registered offered fits.
-        let others : Others = others_of config.slots w p t.id in
-        case_fits script config.passes p.shared registered t others t.status t.frames (is_placed script t.frames) (case_of config.passes (body_at script t.frames) p.shared t others true choice (next_of script t.frames) t.status (λ known. offered)) fits;
+        let environment : Environment = environment_of config.slots w p t.id in
+        case_fits script config.passes p.shared registered t environment t.status t.frames (is_placed script t.frames) (case_of config.passes (body_at script t.frames) p.shared t environment true choice (next_of script t.frames) t.status (λ known. offered)) fits;
     replica = λ w p t k at registered forks fits. inl (child_fits t (ap is_running forks) t.frames fits);
   }
 

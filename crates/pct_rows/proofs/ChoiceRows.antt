@@ -1,6 +1,6 @@
 -- The order of the scheduler's candidates, how two numbers choose among them, and the choices of a thread that creates a thread or a key.
-use Rattle.pct_names.proofs.Names.{◌++◌, [], Alt, by_slot, Candidate, candidates, chosen, Config, Entry, false, first_process, Frame}
-use Rattle.pct_names.proofs.Names.{KeyPlace, List, map, new_frame, new_shared, new_thread, None, Others, others_of, Process, refl}
+use Rattle.pct_names.proofs.Names.{◌++◌, [], Alt, by_slot, Candidate, candidates, chosen, Config, Entry, Environment, environment_of, false}
+use Rattle.pct_names.proofs.Names.{first_process, Frame, KeyPlace, List, map, new_frame, new_shared, new_thread, None, Process, refl}
 use Rattle.pct_names.proofs.Names.{replicate, running_choices, SharedState, slot_of, Some, Status, Stmt, Thread, true, World, ℕ, ◌∷◌, ◌≡◌}
 use Rattle.pct_model.specs.declared.schedule.Alt.TheVariants as alt
 use Rattle.pct_model.specs.declared.state.FrameKind.TheVariants as kind
@@ -80,12 +80,12 @@ abbrev pub state_of : List Process → World
 state_of processes = record { processes = processes; stop = None }
 
 -- a thread sees no others
-abbrev pub nobody : Others
-nobody = others_of 0 (state_of []) (process 1 []) 1
+abbrev pub nobody : Environment
+nobody = environment_of 0 (state_of []) (process 1 []) 1
 
 -- the choices of a running thread at a statement of `main`
-abbrev pub choices_before : SharedState → Thread → Others → Stmt → List Alt
-choices_before shared t others s = running_choices [] shared t others start s
+abbrev pub choices_before : SharedState → Thread → Environment → Stmt → List Alt
+choices_before shared t environment s = running_choices [] shared t environment start s
 
 -- a new thread gets one of the ids of the free slots, by rising slot; without one the call fails
 new_thread_ids : map (λ ids. choices_before (new_shared smallest) (ready 1) (record nobody { new_ids = ids }) (statement.Create destination.Drop destination.Drop 0 (operand.Num 0) false)) ((5 ∷ 2 ∷ []) ∷ [] ∷ []) ≡ (alt.New 5 ∷ alt.New 2 ∷ []) ∷ (alt.Go ∷ []) ∷ []

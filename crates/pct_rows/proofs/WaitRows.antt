@@ -1,8 +1,8 @@
 -- The choices and transitions of mutexes, condition variables and semaphores, by status: each cause, with the mutex free and owned, with a
 -- request and without; and states that no run reaches.
 use Rattle.pct_names.proofs.Names.{[], acts, acts_on_request, after_transition, Alt, Asynchronous, broadcasts, Cause, choices_of, Disable}
-use Rattle.pct_names.proofs.Names.{flat_map, goes_on, List, map, new_shared, no_change, None, others_of, posts, refl, SharedState, Status}
-use Rattle.pct_names.proofs.Names.{Some, Thread, Transition, true, ℕ, ◌∷◌, ◌≡◌}
+use Rattle.pct_names.proofs.Names.{environment_of, flat_map, goes_on, List, map, new_shared, no_change, None, posts, refl, SharedState}
+use Rattle.pct_names.proofs.Names.{Some, Status, Thread, Transition, true, ℕ, ◌∷◌, ◌≡◌}
 use Rattle.pct_model.specs.declared.event.What.TheVariants as what
 use Rattle.pct_model.specs.declared.schedule.Alt.TheVariants as alt
 use Rattle.pct_model.specs.declared.state.Cause.TheVariants as cause
@@ -77,7 +77,7 @@ unfolding runs_on_literals
 asynchronous_at_a_lock = refl
 
 -- a signal unblocks one of the threads that wait on its condition variable
-at_a_signal : map (λ c. choices_before (shared 0) (ready 1) (others_of 4 (state_of []) (process 1 waiters) 1) (statement.Signal c)) (1 ∷ 2 ∷ 3 ∷ []) ≡ (alt.Pick 6 ∷ alt.Pick 3 ∷ []) ∷ (alt.Pick 4 ∷ []) ∷ (alt.Go ∷ []) ∷ []
+at_a_signal : map (λ c. choices_before (shared 0) (ready 1) (environment_of 4 (state_of []) (process 1 waiters) 1) (statement.Signal c)) (1 ∷ 2 ∷ 3 ∷ []) ≡ (alt.Pick 6 ∷ alt.Pick 3 ∷ []) ∷ (alt.Pick 4 ∷ []) ∷ (alt.Go ∷ []) ∷ []
 unfolding runs_on_literals
 at_a_signal = refl
 

@@ -8,7 +8,7 @@ use Rattle.pct_schedule.specs.declared.reader.End.TheVariants as end
 use Rattle.pct_schedule.specs.Prefix.{prefix_entries_from, prefix_from}
 
 -- the entries of the lines from line n on, to this end
-abbrev pub entries_to : End → ℕ → ℕ → ℕ → List (List ℕ) → Read (List Entry)
+abbrev pub entries_to : End → (n budget k : ℕ) → List (List ℕ) → Read (List Entry)
 entries_to end.Required n budget k lines = entries_from n budget k lines
 entries_to end.Optional n budget k lines = prefix_entries_from n budget k lines
 

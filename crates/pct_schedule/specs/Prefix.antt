@@ -12,7 +12,7 @@ use Rattle.pct_model.specs.Schedule.{Read, Schedule, begins, header_of, entry_of
 
 -- the entries of the lines from line n on, with k entries before them: each line before the first that begins with `end `
 -- is an entry; without such a line, the entries go to the end of the text
-unfoldable pub prefix_entries_from : ℕ → ℕ → ℕ → List (List ℕ) → Read (List Entry)
+unfoldable pub prefix_entries_from : (n budget k : ℕ) → List (List ℕ) → Read (List Entry)
 prefix_entries_from n budget k [] = Ok []
 prefix_entries_from n budget k (line ∷ lines) =
     if begins (keyword_text keyword.End) line

@@ -1,13 +1,13 @@
 -- The last thread of a process that ends goes on to exit it: each thread of the process has ended then.
-use Rattle.pct_names.proofs.Names.{◌&&◌, ap, body_at, Bool, changed, child_of, cond, cond_some, Config, Entry, false, false≢true, find}
-use Rattle.pct_names.proofs.Names.{holds_slot, inl, inr, is_ended_status, is_live_thread, List, moved, nat_eq, next_of, None, none-some}
-use Rattle.pct_names.proofs.Names.{not, Others, others_of, position_or_len, Process, refl, Script, Some, subst, sym, Thread, thread_moved}
-use Rattle.pct_names.proofs.Names.{thread_with, Transition, transition_by, true, World, ◌||◌, ℕ, ◌∙◌, ◌≡◌, ◌⊎◌}
+use Rattle.pct_names.proofs.Names.{◌&&◌, ap, body_at, Bool, changed, child_of, cond, cond_some, Config, Entry, Environment, environment_of}
+use Rattle.pct_names.proofs.Names.{false, false≢true, find, has_valid_id, holds_slot, inl, inr, is_ended_status, List, moved, nat_eq}
+use Rattle.pct_names.proofs.Names.{next_of, None, none-some, not, position_or_len, Process, refl, Script, Some, subst, sym, Thread}
+use Rattle.pct_names.proofs.Names.{thread_moved, thread_with, Transition, transition_by, true, World, ◌||◌, ℕ, ◌∙◌, ◌≡◌, ◌⊎◌}
 use Rattle.pct_laws.specs.ThreadSummary.{ThreadSummary}
 use Rattle.pct_thread_invariants.proofs.lift.KeyedLists.{found_at, item_passes}
 use Rattle.pct_thread_invariants.proofs.lift.ChangedThreads.{same_settled, named_keeps, other_threads}
 use Rattle.pct_thread_invariants.proofs.lift.TakenSteps.{AfterEveryRun}
-use Rattle.pct_thread_invariants.proofs.lift.MadeThreads.{IsLive}
+use Rattle.pct_thread_invariants.proofs.lift.MadeThreads.{HasValidId}
 use Rattle.pct_thread_invariants.proofs.lift.ThreadsAfter.{initial_thread, Moves, mover, is_mover, each_after}
 use Rattle.pct_thread_invariants.proofs.lift.InheritedThreads.{each_heir}
 use Rattle.pct_thread_invariants.proofs.lift.EveryProcess.{OfEveryProcess, IsProcessRule, unread, every_process_keeps, moves_in}
@@ -38,9 +38,9 @@ abbrev view : Thread → Bool × Bool × Bool
 view t = (t.gone, t.ended, is_ended_status t.status)
 
 -- a thread after a transition of the one with an id, if it is that one or not
-moved_view : (tid : ℕ) (o : Transition) (t : Thread) (live : Bool) → is_live_thread tid t ≡ live → view (thread_moved tid o t) ≡ view (cond live (moved o t) t)
+moved_view : (tid : ℕ) (o : Transition) (t : Thread) (live : Bool) → has_valid_id tid t ≡ live → view (thread_moved tid o t) ≡ view (cond live (moved o t) t)
 moved_view tid o t live is =
-    named_keeps view (λ t j p d k s is. ap (λ (b : Bool). (t.gone, t.ended, b)) (same_settled is_ended_status (λ c m why. refl) s t.status is)) o.named (cond (is_live_thread tid t) (moved o t) t) ∙ ap (λ (b : Bool). view (cond b (moved o t) t)) is
+    named_keeps view (λ t j p d k s is. ap (λ (b : Bool). (t.gone, t.ended, b)) (same_settled is_ended_status (λ c m why. refl) s t.status is)) o.named (cond (has_valid_id tid t) (moved o t) t) ∙ ap (λ (b : Bool). view (cond b (moved o t) t)) is
 
 -- a thread that is not the one with an id that holds its slot has ended, if each thread that holds its slot has ended or has the id
 ended_by : (here is_end reclaimed ended same : Bool) → here ≡ true → (is_end ≡ true → ended ≡ true) → (same && (here && not (is_end && reclaimed))) ≡ false → (not (here && not (is_end && reclaimed)) || (ended || same)) ≡ true → ended ≡ true
@@ -64,30 +64,30 @@ module _ (script : Script) (config : Config) (w : World) (p : Process) (e : Entr
   abbrev next : Process
   next = changed e.tid o p
 
-  it : IsLive p e.tid t
+  it : HasValidId p e.tid t
   it = mover script config w p e t moves
 
   -- ---- the threads after the transition
 
   -- each other thread has ended
   abbrev OthersEnded : Type 0
-  OthersEnded = (id : ℕ) (u : Thread) → thread_with id p ≡ Some u → u.gone ≡ false → is_live_thread e.tid u ≡ false → u.ended ≡ true
+  OthersEnded = (id : ℕ) (u : Thread) → thread_with id p ≡ Some u → u.gone ≡ false → has_valid_id e.tid u ≡ false → u.ended ≡ true
 
   module _ (others : OthersEnded) (ends : (moved o t).ended ≡ true) (none : o.created ≡ None) where
-    moved_ended : (id : ℕ) (u : Thread) → thread_with id p ≡ Some u → (live : Bool) → is_live_thread e.tid u ≡ live → (thread_moved e.tid o u).gone ≡ false → (thread_moved e.tid o u).ended ≡ true
+    moved_ended : (id : ℕ) (u : Thread) → thread_with id p ≡ Some u → (live : Bool) → has_valid_id e.tid u ≡ live → (thread_moved e.tid o u).gone ≡ false → (thread_moved e.tid o u).ended ≡ true
     moved_ended id u is true live present = ap (λ (v : Bool × Bool × Bool). v.1) (moved_view e.tid o u true live) ∙ ap (λ (x : Thread). (moved o x).ended) (is_mover script config w p e t moves id u is live).0 ∙ ends
     moved_ended id u is false live present =
         let same : view (thread_moved e.tid o u) ≡ view u = moved_view e.tid o u false live in
         ap (λ (v : Bool × Bool × Bool). v.1) same ∙ others id u is (sym (ap (λ (v : Bool × Bool × Bool). v.0) same) ∙ present) live
 
     all_ended : AllEnded next.threads
-    all_ended = each_after script config w p e t moves (λ id w. w.gone ≡ false → w.ended ≡ true) (λ id u is. moved_ended id u is (is_live_thread e.tid u) refl) (λ id new makes present. absurd (none-some new (sym none ∙ makes)))
+    all_ended = each_after script config w p e t moves (λ id w. w.gone ≡ false → w.ended ≡ true) (λ id u is. moved_ended id u is (has_valid_id e.tid u) refl) (λ id new makes present. absurd (none-some new (sym none ∙ makes)))
 
   -- ---- the thread that moves
 
   -- what it sees of the others
-  abbrev seen : Others
-  seen = others_of config.slots w p t.id
+  abbrev seen : Environment
+  seen = environment_of config.slots w p t.id
 
   -- its transition, by case
   its_case : TransitionCase config.passes (body_at script t.frames) p.shared t seen true (next_of script t.frames) t.status o
@@ -108,7 +108,7 @@ module _ (script : Script) (config : Config) (w : World) (p : Process) (e : Entr
 
   -- where it ends as the last thread, each other has ended
   pub others_if_last : seen.is_last ≡ true → OthersEnded
-  unfolding others_of
+  unfolding environment_of
   others_if_last alone id u is present other =
       let passes : (not (holds_slot u) || (u.ended || nat_eq u.id t.id)) ≡ true = item_passes (λ (x : Thread). not (holds_slot x) || (x.ended || nat_eq x.id t.id)) p.threads (position_or_len (λ (x : Thread). nat_eq x.id id) p.threads) u alone (found_at (λ (x : Thread). nat_eq x.id id) p.threads u is) in
       let rule : (s : ThreadSummary) × FitsAny script config.passes u s = of_threads id u is present in
@@ -130,7 +130,7 @@ module _ (script : Script) (config : Config) (w : World) (p : Process) (e : Entr
   it_exits true ended ends status = ended_stay (last e.tid t it.found (it.here, ended, (its_goes_on ended).alive))
   it_exits false alive ends status = ends_now alive ends status
 
-  moved_exits : (id : ℕ) (u : Thread) → thread_with id p ≡ Some u → (live : Bool) → is_live_thread e.tid u ≡ live → ExitsAfterEnd (thread_moved e.tid o u) → AllEnded next.threads
+  moved_exits : (id : ℕ) (u : Thread) → thread_with id p ≡ Some u → (live : Bool) → has_valid_id e.tid u ≡ live → ExitsAfterEnd (thread_moved e.tid o u) → AllEnded next.threads
   moved_exits id u is true live exits =
       let same : view (thread_moved e.tid o u) ≡ view (moved o t) = moved_view e.tid o u true live ∙ ap (λ (x : Thread). view (moved o x)) (is_mover script config w p e t moves id u is live).0 in
       it_exits t.ended refl (sym (ap (λ (v : Bool × Bool × Bool). v.1) same) ∙ exits.1) (sym (ap (λ (v : Bool × Bool × Bool). v.2) same) ∙ exits.2)
@@ -139,7 +139,7 @@ module _ (script : Script) (config : Config) (w : World) (p : Process) (e : Entr
       ended_stay (last id u is (sym (ap (λ (v : Bool × Bool × Bool). v.0) same) ∙ exits.0, sym (ap (λ (v : Bool × Bool × Bool). v.1) same) ∙ exits.1, sym (ap (λ (v : Bool × Bool × Bool). v.2) same) ∙ exits.2))
 
   pub last_after : LastExits next.threads
-  last_after = each_after script config w p e t moves (λ id w. ExitsAfterEnd w → AllEnded next.threads) (λ id u is. moved_exits id u is (is_live_thread e.tid u) refl) (λ id new makes exits. absurd (false≢true exits.1))
+  last_after = each_after script config w p e t moves (λ id w. ExitsAfterEnd w → AllEnded next.threads) (λ id u is. moved_exits id u is (has_valid_id e.tid u) refl) (λ id new makes exits. absurd (false≢true exits.1))
 
 -- ---- every run
 

@@ -1,6 +1,6 @@
 -- What every run keeps of each thread: the rule of the thread, and so the sentences of Kept.antt.
 use Rattle.pct_names.proofs.Names.{◌&&◌, Alt, ap, Bool, Cause, choices_of, cond, Config, Entry, false, false≢true, Frame, has_left_wait}
-use Rattle.pct_names.proofs.Names.{inl, inr, is_ended_status, is_forking, is_live_thread, is_waiting_on, key_place, List, made_process}
+use Rattle.pct_names.proofs.Names.{has_valid_id, inl, inr, is_ended_status, is_forking, is_waiting_on, key_place, List, made_process}
 use Rattle.pct_names.proofs.Names.{main_of, named_after, NamedAction, names_of, None, not, offers, Option, option_and_then, Process, Reason}
 use Rattle.pct_names.proofs.Names.{refl, reverse, Run, run, Script, Some, Status, subst, sym, Thread, thread_with, transition_by, true}
 use Rattle.pct_names.proofs.Names.{unblocked, World, ℕ, ◌∙◌, ◌≡◌}
@@ -53,10 +53,10 @@ module _ (script : Script) (passes : ℕ) where
 
   named_fits : (a : Option NamedAction) (t : Thread) (s : ThreadSummary) → FitsAny script passes t s → FitsAny script passes (named_after a t) s
   unfolding named_after
-  named_fits (Some (named_action.EndJoin id)) t s fits = named_if (is_live_thread id t) (record t { joined = true }) t s fits fits
-  named_fits (Some (named_action.Request id)) t s fits = named_if (is_live_thread id t && not t.ended) (record t { pending = true }) t s fits fits
-  named_fits (Some (named_action.Detach id)) t s fits = named_if (is_live_thread id t) (record t { detached = true }) t s fits fits
-  named_fits (Some (named_action.Wake id)) t s fits = named_if (is_live_thread id t) (record t { status = unblocked cause.Signalled t.status }) t s (unblocked_fits cause.Signalled (λ c m. refl) t s fits) fits
+  named_fits (Some (named_action.EndJoin id)) t s fits = named_if (has_valid_id id t) (record t { joined = true }) t s fits fits
+  named_fits (Some (named_action.Request id)) t s fits = named_if (has_valid_id id t && not t.ended) (record t { pending = true }) t s fits fits
+  named_fits (Some (named_action.Detach id)) t s fits = named_if (has_valid_id id t) (record t { detached = true }) t s fits fits
+  named_fits (Some (named_action.Wake id)) t s fits = named_if (has_valid_id id t) (record t { status = unblocked cause.Signalled t.status }) t s (unblocked_fits cause.Signalled (λ c m. refl) t s fits) fits
   named_fits (Some (named_action.WakeAll c)) t s fits = named_if (is_waiting_on c t.status) (record t { status = unblocked cause.Broadcast t.status }) t s (unblocked_fits cause.Broadcast (λ c m. refl) t s fits) fits
   named_fits (Some (named_action.ForgetKey k)) t s fits = record {
     agrees = fits.agrees;

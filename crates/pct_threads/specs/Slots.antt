@@ -78,7 +78,7 @@ abbrev pub with_call : ℕ → ℕ → FrameKind → Held → Held
 with_call func arg kind held = record held { frames = new_frame func arg kind ∷ held.frames }
 
 -- with a new frame, of the kind with this number
-abbrev pub with_frame : ℕ → ℕ → ℕ → Held → Held
+abbrev pub with_frame : (func arg number : ℕ) → Held → Held
 with_frame func arg number = with_call func arg (kind_of number)
 
 -- with one frame, of a kind
@@ -102,7 +102,7 @@ abbrev pub without_frames : Held → Held
 without_frames held = record held { frames = [] }
 
 -- with another value of a word of a frame
-abbrev pub with_frame_word : ℕ → ℕ → ℕ → Held → Held
+abbrev pub with_frame_word : (number i value : ℕ) → Held → Held
 with_frame_word number i value held = record held { frames = on_frame number (with_word i value) held.frames }
 
 -- after its end: a detached thread gives back its slot (XSH pthread_detach)
@@ -114,7 +114,7 @@ abbrev pub after_detach : Held → Option Held
 after_detach held = if is_ended_status held.thread.status then None else Some (record held { detached = true })
 
 -- a new thread, with one frame of its start routine (XSH pthread_create)
-abbrev pub new_held : ℕ → ℕ → ℕ → Bool → Held
+abbrev pub new_held : (id func arg : ℕ) → Bool → Held
 new_held id func arg detached = record { id = id; detached = detached; frames = new_frame func arg Start ∷ []; thread = new_record }
 
 -- ---- changes of a slot
@@ -132,5 +132,5 @@ abbrev pub freed : Slot → Slot
 freed slot = record slot { here = None }
 
 -- the slot with a new thread
-abbrev pub created : ℕ → ℕ → ℕ → Bool → Slot → Slot
+abbrev pub created : (id func arg : ℕ) → Bool → Slot → Slot
 created id func arg detached slot = record { made = slot.made + 1; here = Some (new_held id func arg detached) }

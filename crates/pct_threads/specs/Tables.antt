@@ -60,7 +60,7 @@ abbrev pub on_held : ℕ → (Held → Held) → List Slot → List Slot
 on_held index change slots = on_slot index (with_change change) slots
 
 -- the table after a creation
-abbrev pub with_created : ℕ → ℕ → ℕ → Bool → List Slot → List Slot
+abbrev pub with_created : (index func arg : ℕ) → Bool → List Slot → List Slot
 with_created index func arg detached slots = on_slot index (created (next_id_at slots index) func arg detached) slots
 
 -- the table after the end of the thread that holds a slot

@@ -3,22 +3,22 @@ use Rattle.pct_names.proofs.Names.{◌&&◌, ◌++◌, ◌<◌, [], acts, acts_o
 use Rattle.pct_names.proofs.Names.{arith, AsyncCall, begins_fork, begins_join, begins_sem_wait, begins_wait, begins_waitpid, Bool}
 use Rattle.pct_names.proofs.Names.{broadcasts, called_kind, calls, calls_destructor, calls_handler, calls_point, Cause, choices_at, cond}
 use Rattle.pct_names.proofs.Names.{cond_wait_point, creates, creates_by, creates_key, creates_key_by, deletes_key, Dest, detaches, due_keys}
-use Rattle.pct_names.proofs.Names.{EAGAIN, emits, end_value, ends_block, ends_by_exit, ends_join, ends_now, ends_thread, eqb-false}
-use Rattle.pct_names.proofs.Names.{exit_value_of, exits, exits_twice, fails_to_create, fails_to_create_key, false, find, finds_no_child}
-use Rattle.pct_names.proofs.Names.{first_stop, ForkAt, ForkChildCall, forks_by, Frame, FrameKind, gets_self, gets_specific, goes_on}
-use Rattle.pct_names.proofs.Names.{goes_on_after_handlers, goes_on_ending, goes_on_exiting, goes_on_forking, HandlerCall, hands_on}
-use Rattle.pct_names.proofs.Names.{has_begun_to_end, inl, inr, is_allowed_asynchronously, is_asynchronous, is_deliverable}
-use Rattle.pct_names.proofs.Names.{is_forbidden_in_child, is_in_handler, is_none, is_required, is_some, is_stack_full, join_point, joins_at}
-use Rattle.pct_names.proofs.Names.{jumps, Key, key_place, key_with, leaves_handler, leaves_wait, left_keys, length, List, list_any, locks}
-use Rattle.pct_names.proofs.Names.{MAX_FORK_HANDLERS, MAX_FRAMES, MAX_HANDLERS, may_register, nat_eq, nat_lt, next_handler, NextStatement}
-use Rattle.pct_names.proofs.Names.{None, none-some, not, not-false, not-true, offers, open_of, Operand, Option, option_and_then, option_map}
-use Rattle.pct_names.proofs.Names.{option_map_or, Optional, or_parts, Others, owns, Parent, passes_point, Phase, point_kind, PointKind}
-use Rattle.pct_names.proofs.Names.{points, pops, pos_of_ne-zero, posts, Prepare, pushes, reacquires, reaps, reaps_if, refl, registers_fork}
-use Rattle.pct_names.proofs.Names.{registers_if, requests, Required, returns_by, returns_in_child, returns_in_parent, runs, sem_wait_point}
-use Rattle.pct_names.proofs.Names.{sets, sets_mode, sets_specific, sets_state, SharedState, signals_by, slice_index, Some, StatementIn}
-use Rattle.pct_names.proofs.Names.{Status, Stmt, stop_at, stops_of, stops_or, StopTest, subst, suc, sym, takes, testcancel_point}
-use Rattle.pct_names.proofs.Names.{tests_cancel, Thread, Transition, transition_at, true, unlocks, value_at, value_of, waitpid_point}
-use Rattle.pct_names.proofs.Names.{waits_at, waits_with_another_mutex, Why, ◌||◌, ℕ, ◌∙◌, ◌∷◌, ◌≡◌, ◌≤◌}
+use Rattle.pct_names.proofs.Names.{EAGAIN, emits, end_value, ends_block, ends_by_exit, ends_join, ends_now, ends_sem_wait, ends_thread}
+use Rattle.pct_names.proofs.Names.{Environment, eqb-false, exit_value_of, exits, exits_twice, fails_to_create, fails_to_create_key, false}
+use Rattle.pct_names.proofs.Names.{find, finds_no_child, first_stop, ForkAt, ForkChildCall, forks_by, Frame, FrameKind, gets_self}
+use Rattle.pct_names.proofs.Names.{gets_specific, goes_on, goes_on_after_handlers, goes_on_ending, goes_on_exiting, goes_on_forking}
+use Rattle.pct_names.proofs.Names.{HandlerCall, hands_on, has_begun_to_end, inl, inr, is_allowed_asynchronously, is_asynchronous}
+use Rattle.pct_names.proofs.Names.{is_deliverable, is_forbidden_in_child, is_in_handler, is_none, is_required, is_some, is_stack_full}
+use Rattle.pct_names.proofs.Names.{join_point, joins_at, jumps, Key, key_place, key_with, leaves_handler, leaves_wait, left_keys, length}
+use Rattle.pct_names.proofs.Names.{List, list_any, locks, MAX_FORK_HANDLERS, MAX_FRAMES, MAX_HANDLERS, may_register, nat_eq, nat_lt}
+use Rattle.pct_names.proofs.Names.{next_handler, NextStatement, None, none-some, not, not-false, not-true, offers, open_of, Operand, Option}
+use Rattle.pct_names.proofs.Names.{option_and_then, option_map, option_map_or, Optional, or_parts, owns, Parent, passes_point, Phase}
+use Rattle.pct_names.proofs.Names.{point_kind, PointKind, points, pops, pos_of_ne-zero, posts, Prepare, pushes, reacquires, reaps, reaps_if}
+use Rattle.pct_names.proofs.Names.{refl, registers_fork, registers_if, requests, Required, returns_by, returns_in_child, returns_in_parent}
+use Rattle.pct_names.proofs.Names.{runs, sem_wait_point, sets, sets_mode, sets_specific, sets_state, SharedState, signals_by, slice_index}
+use Rattle.pct_names.proofs.Names.{Some, StatementIn, Status, Stmt, stop_at, stops_of, stops_or, StopTest, subst, suc, sym}
+use Rattle.pct_names.proofs.Names.{testcancel_point, tests_cancel, Thread, Transition, transition_at, true, unlocks, value_at, value_of}
+use Rattle.pct_names.proofs.Names.{waitpid_point, waits_at, waits_with_another_mutex, Why, ◌||◌, ℕ, ◌∙◌, ◌∷◌, ◌≡◌, ◌≤◌}
 use Rattle.std.proofs.Common.{eqb-true}
 use Rattle.std.proofs.lemmas.Bool.{true≢false, ltb-true, ltb-false}
 use Rattle.pct_model.specs.declared.event.Caller.TheVariants as caller
@@ -33,8 +33,26 @@ use Rattle.pct_model.specs.declared.statement.Stmt.TheVariants as statement
 use Rattle.pct_model.specs.declared.transition.NamedAction.TheVariants as named_action
 use Rattle.pct_model.specs.declared.transition.OwnAction.TheVariants as own_action
 use Rattle.pct_model.specs.declared.transition.SharedAction.TheVariants as shared_action
-use Rattle.pct_transition_cases.proofs.OfferedChoices.{is_acting, goes_at, Offered, offered_alive, may_go_on, act_delivered, act_where_it_may, heir_among, picked_among, id_among, key_among, left_among, offered_of, free_to_lock, gone_on_at_required, no_key_left}
-use Rattle.pct_transition_cases.proofs.TransitionCases.{past_nop, past_if, past_while, past_else, past_end, Returns, by_return, by_end, TransitionCase, rests, stopped, jumped, emitted, variable_set, variable_added, function_called, main_returned, start_returned, call_left, handler_left, exit_function_left, thread_made, thread_not_made, join_begun, join_ended, thread_detached, self_got, request_sent, state_set, mode_set, cancel_tested, point_begun, point_done, point_passed, canceled, canceled_at_point, canceled_in_join, canceled_in_sem_wait, canceled_in_waitpid, mutex_locked, mutex_unlocked, wait_begun, wait_ended, canceled_in_wait, canceled_after_wait, signal_handed_on, ended_in_wait, signal_sent, signal_lost, broadcast_sent, sem_wait_begun, sem_taken, sem_posted, fork_registered, fork_not_registered, fork_begun, fork_handler_called, fork_handler_left, process_forked, process_not_forked, fork_failed, fork_returned, waitpid_begun, child_reaped, no_child_found, child_lost, key_made, key_not_made, key_deleted, specific_set, specific_got, handler_pushed, handler_popped, handler_called, exit_called, handler_run, destructor_called, pass_begun, thread_ended, thread_ended_with_keys, last_ended, last_ended_with_keys, exit_registered, exit_not_registered, process_exited, process_ended_now, exit_function_called, process_ended}
+use Rattle.pct_transition_cases.proofs.OfferedChoices.{is_acting, goes_at, Offered, offered_alive, may_go_on, act_delivered}
+use Rattle.pct_transition_cases.proofs.OfferedChoices.{act_where_it_may, heir_among, picked_among, id_among, key_among, left_among}
+use Rattle.pct_transition_cases.proofs.OfferedChoices.{offered_of, free_to_lock, gone_on_at_required, no_key_left}
+use Rattle.pct_transition_cases.proofs.TransitionCases.{past_nop, past_if, past_while, past_else, past_end, Returns, by_return, by_end}
+use Rattle.pct_transition_cases.proofs.TransitionCases.{TransitionCase, rests, stopped, jumped, emitted, variable_set, variable_added}
+use Rattle.pct_transition_cases.proofs.TransitionCases.{function_called, main_returned, start_returned, call_left, handler_left}
+use Rattle.pct_transition_cases.proofs.TransitionCases.{exit_function_left, thread_made, thread_not_made, join_begun, join_ended}
+use Rattle.pct_transition_cases.proofs.TransitionCases.{thread_detached, self_got, request_sent, state_set, mode_set, cancel_tested}
+use Rattle.pct_transition_cases.proofs.TransitionCases.{point_begun, point_done, point_passed, canceled, canceled_at_point}
+use Rattle.pct_transition_cases.proofs.TransitionCases.{canceled_in_join, canceled_in_sem_wait, canceled_in_waitpid, mutex_locked}
+use Rattle.pct_transition_cases.proofs.TransitionCases.{mutex_unlocked, wait_begun, wait_ended, canceled_in_wait, canceled_after_wait}
+use Rattle.pct_transition_cases.proofs.TransitionCases.{signal_handed_on, ended_in_wait, signal_sent, signal_lost, broadcast_sent}
+use Rattle.pct_transition_cases.proofs.TransitionCases.{sem_wait_begun, sem_taken, sem_posted, fork_registered, fork_not_registered}
+use Rattle.pct_transition_cases.proofs.TransitionCases.{fork_begun, fork_handler_called, fork_handler_left, process_forked}
+use Rattle.pct_transition_cases.proofs.TransitionCases.{process_not_forked, fork_failed, fork_returned, waitpid_begun, child_reaped}
+use Rattle.pct_transition_cases.proofs.TransitionCases.{no_child_found, child_lost, key_made, key_not_made, key_deleted, specific_set}
+use Rattle.pct_transition_cases.proofs.TransitionCases.{specific_got, handler_pushed, handler_popped, handler_called, exit_called}
+use Rattle.pct_transition_cases.proofs.TransitionCases.{handler_run, destructor_called, pass_begun, thread_ended, thread_ended_with_keys}
+use Rattle.pct_transition_cases.proofs.TransitionCases.{last_ended, last_ended_with_keys, exit_registered, exit_not_registered}
+use Rattle.pct_transition_cases.proofs.TransitionCases.{process_exited, process_ended_now, exit_function_called, process_ended}
 
 -- ---- stops
 
@@ -49,13 +67,13 @@ no_stop (test ∷ tests) none = by_test test.0 refl none (no_stop tests)
     by_test false is none later = ap (λ (b : Bool). b || list_any (λ (s : StopTest). s.0) tests) is ∙ later none
 
 -- where a statement does not stop, it is not forbidden in the process of the thread, it may be called with the cancelability of the thread, and none of its own stops applies
-pub no_stops : (body : List Stmt) (shared : SharedState) (t : Thread) (others : Others) (frame : Frame) (s : Stmt) → stop_at body shared t others frame s ≡ None
-    → (is_forbidden_in_child body shared frame s ≡ false) × ((is_asynchronous t.state t.mode && not (is_allowed_asynchronously s) ≡ false) × (list_any (λ (test : StopTest). test.0) (stops_of body shared t others frame s) ≡ false))
+pub no_stops : (body : List Stmt) (shared : SharedState) (t : Thread) (environment : Environment) (frame : Frame) (s : Stmt) → stop_at body shared t environment frame s ≡ None
+    → (is_forbidden_in_child body shared frame s ≡ false) × ((is_asynchronous t.state t.mode && not (is_allowed_asynchronously s) ≡ false) × (list_any (λ (test : StopTest). test.0) (stops_of body shared t environment frame s) ≡ false))
 unfolding stop_at
-no_stops body shared t others frame s none =
-    let own : Bool = list_any (λ (test : StopTest). test.0) (stops_of body shared t others frame s) in
+no_stops body shared t environment frame s none =
+    let own : Bool = list_any (λ (test : StopTest). test.0) (stops_of body shared t environment frame s) in
     let called : Bool = is_asynchronous t.state t.mode && not (is_allowed_asynchronously s) in
-    let all : (is_forbidden_in_child body shared frame s || (called || own)) ≡ false = no_stop ((is_forbidden_in_child body shared frame s, ForkChildCall) ∷ (called, AsyncCall) ∷ stops_of body shared t others frame s) none in
+    let all : (is_forbidden_in_child body shared frame s || (called || own)) ≡ false = no_stop ((is_forbidden_in_child body shared frame s, ForkChildCall) ∷ (called, AsyncCall) ∷ stops_of body shared t environment frame s) none in
     let parts : (is_forbidden_in_child body shared frame s ≡ false) × ((called || own) ≡ false) = or_parts (is_forbidden_in_child body shared frame s) (called || own) all in
     (parts.0, or_parts called own parts.1)
 
@@ -88,26 +106,26 @@ shall_wait_for_child : is_required (point_kind waitpid_point) ≡ true
 unfolding point_kind points
 shall_wait_for_child = refl
 
-module _ (passes : ℕ) (body : List Stmt) (shared : SharedState) (t : Thread) (others : Others) (offered : Bool) where
+module _ (passes : ℕ) (body : List Stmt) (shared : SharedState) (t : Thread) (environment : Environment) (offered : Bool) where
   abbrev Case : NextStatement → Status → Transition → Type 0
-  Case next s o = TransitionCase passes body shared t others offered next s o
+  Case next s o = TransitionCase passes body shared t environment offered next s o
 
   abbrev value : Frame → Operand → ℕ
   value frame v = value_of shared.globals frame v
 
   -- the choice is among those of the table, where it is known to be offered
   abbrev Legal : Alt → NextStatement → Status → Type 0
-  Legal choice next s = offered ≡ true → offers (choices_at body shared t others next s) choice ≡ true
+  Legal choice next s = offered ≡ true → offers (choices_at body shared t environment next s) choice ≡ true
 
-  may_be : {choice : Alt} {next : NextStatement} {s : Status} → Legal choice next s → offered ≡ true → Offered shared t others next s choice
-  may_be {choice} {next} {s} legal known = offered_of body shared t others choice next s (legal known)
+  may_be : {choice : Alt} {next : NextStatement} {s : Status} → Legal choice next s → offered ≡ true → Offered shared t environment next s choice
+  may_be {choice} {next} {s} legal known = offered_of body shared t environment choice next s (legal known)
 
   -- and it is not to act upon a request
   abbrev Goes : Alt → NextStatement → Status → Type 0
-  Goes choice next s = offered ≡ true → (offers (choices_at body shared t others next s) choice ≡ true) × (is_acting choice ≡ false)
+  Goes choice next s = offered ≡ true → (offers (choices_at body shared t environment next s) choice ≡ true) × (is_acting choice ≡ false)
 
-  goes : (choice : Alt) (next : NextStatement) (s : Status) → Goes choice next s → offered ≡ true → goes_at shared others s ≡ true
-  goes choice next s may known = may_go_on (offered_of body shared t others choice next s (may known).0) (may known).1
+  goes : (choice : Alt) (next : NextStatement) (s : Status) → Goes choice next s → offered ≡ true → goes_at shared environment s ≡ true
+  goes choice next s may known = may_go_on (offered_of body shared t environment choice next s (may known).0) (may known).1
 
   -- ---- statements
 
@@ -134,46 +152,46 @@ module _ (passes : ℕ) (body : List Stmt) (shared : SharedState) (t : Thread) (
   end_case frame (Some opened) is once = jumped frame statement.End (after_end body frame.pc opened) (past_end opened is)
   end_case frame None is once = return_case frame statement.End 0 (by_end is) frame.kind refl once
 
-  join_case : (frame : Frame) (id : Operand) (d : Dest) → (offered ≡ true → is_deliverable t.state t.pending ≡ false) → (found : Option Thread) → others.named (value frame id) ≡ found
-      → (is_none found || (nat_eq (value frame id) t.id || (option_map_or (λ u. u.detached) found false || (others.another_joins (value frame id) || false)))) ≡ false
+  join_case : (frame : Frame) (id : Operand) (d : Dest) → (offered ≡ true → is_deliverable t.state t.pending ≡ false) → (found : Option Thread) → environment.named (value frame id) ≡ found
+      → (is_none found || (nat_eq (value frame id) t.id || (option_map_or (λ u. u.detached) found false || (environment.another_joins (value frame id) || false)))) ≡ false
       → Case (StatementIn frame (statement.Join id d)) status.Running (begins_join (value frame id))
   unfolding begins_join
   join_case frame id d unasked None is none = absurd (true≢false none)
   join_case frame id d unasked (Some target) is none =
-      let joined : Bool = others.another_joins (value frame id) in
+      let joined : Bool = environment.another_joins (value frame id) in
       let other : (nat_eq (value frame id) t.id ≡ false) × ((target.detached || (joined || false)) ≡ false) = or_parts (nat_eq (value frame id) t.id) (target.detached || (joined || false)) none in
       let joinable : (target.detached ≡ false) × ((joined || false) ≡ false) = or_parts target.detached (joined || false) other.1 in
       join_begun frame id d target is other.0 joinable.0 (alone joined joinable.1) unasked
 
-  detach_case : (frame : Frame) (id : Operand) (found : Option Thread) → others.named (value frame id) ≡ found → (is_none found || (option_map_or (λ u. u.detached) found false || (others.another_joins (value frame id) || false))) ≡ false
+  detach_case : (frame : Frame) (id : Operand) (found : Option Thread) → environment.named (value frame id) ≡ found → (is_none found || (option_map_or (λ u. u.detached) found false || (environment.another_joins (value frame id) || false))) ≡ false
       → Case (StatementIn frame (statement.Detach id)) status.Running (detaches (suc frame.pc) (value frame id))
   unfolding detaches
   detach_case frame id None is none = absurd (true≢false none)
   detach_case frame id (Some target) is none =
-      let joined : Bool = others.another_joins (value frame id) in
+      let joined : Bool = environment.another_joins (value frame id) in
       let joinable : (target.detached ≡ false) × ((joined || false) ≡ false) = or_parts target.detached (joined || false) none in
       thread_detached frame id target is joinable.0 (alone joined joinable.1)
 
-  request_case : (frame : Frame) (id : Operand) (found : Option Thread) → others.named (value frame id) ≡ found → (is_none found || false) ≡ false → Case (StatementIn frame (statement.CancelThread id)) status.Running (requests (suc frame.pc) (value frame id))
+  request_case : (frame : Frame) (id : Operand) (found : Option Thread) → environment.named (value frame id) ≡ found → (is_none found || false) ≡ false → Case (StatementIn frame (statement.CancelThread id)) status.Running (requests (suc frame.pc) (value frame id))
   unfolding requests
   request_case frame id None is none = absurd (true≢false none)
   request_case frame id (Some target) is none = request_sent frame id target is
 
-  create_case : (choice : Alt) (frame : Frame) (result id : Dest) (f : ℕ) (v : Operand) (detached : Bool) → (offered ≡ true → Offered shared t others (StatementIn frame (statement.Create result id f v detached)) status.Running choice)
+  create_case : (choice : Alt) (frame : Frame) (result id : Dest) (f : ℕ) (v : Operand) (detached : Bool) → (offered ≡ true → Offered shared t environment (StatementIn frame (statement.Create result id f v detached)) status.Running choice)
       → Case (StatementIn frame (statement.Create result id f v detached)) status.Running (creates_by choice (suc frame.pc) result id f (value frame v) detached)
   unfolding creates fails_to_create
   create_case (alt.New n) frame result id f v detached may = thread_made frame result id f v detached n (λ known. id_among (may known))
   create_case alt.Go frame result id f v detached may = thread_not_made frame result id f v detached
   create_case _ frame result id f v detached may = rests (StatementIn frame (statement.Create result id f v detached)) status.Running (λ known. refl)
 
-  create_key_case : (choice : Alt) (frame : Frame) (result key : Dest) (destructor : Option ℕ) → (offered ≡ true → Offered shared t others (StatementIn frame (statement.KeyCreate result key destructor)) status.Running choice)
+  create_key_case : (choice : Alt) (frame : Frame) (result key : Dest) (destructor : Option ℕ) → (offered ≡ true → Offered shared t environment (StatementIn frame (statement.KeyCreate result key destructor)) status.Running choice)
       → Case (StatementIn frame (statement.KeyCreate result key destructor)) status.Running (creates_key_by choice (suc frame.pc) result key destructor)
   unfolding creates_key fails_to_create_key
   create_key_case (alt.New n) frame result key destructor may = key_made frame result key destructor n (λ known. key_among (may known))
   create_key_case alt.Go frame result key destructor may = key_not_made frame result key destructor
   create_key_case _ frame result key destructor may = rests (StatementIn frame (statement.KeyCreate result key destructor)) status.Running (λ known. refl)
 
-  signal_case : (choice : Alt) (frame : Frame) (c : ℕ) → (offered ≡ true → Offered shared t others (StatementIn frame (statement.Signal c)) status.Running choice) → Case (StatementIn frame (statement.Signal c)) status.Running (signals_by choice (suc frame.pc) c)
+  signal_case : (choice : Alt) (frame : Frame) (c : ℕ) → (offered ≡ true → Offered shared t environment (StatementIn frame (statement.Signal c)) status.Running choice) → Case (StatementIn frame (statement.Signal c)) status.Running (signals_by choice (suc frame.pc) c)
   unfolding signals_by
   signal_case (alt.Pick u) frame c may = signal_sent frame c u (λ known. picked_among (may known))
   signal_case alt.Go frame c may = signal_lost frame c
@@ -214,13 +232,13 @@ module _ (passes : ℕ) (body : List Stmt) (shared : SharedState) (t : Thread) (
   pop_case frame v ((f, a) ∷ handlers) is none = pop_by frame v f a handlers is (nat_eq (value frame v) 0) refl none
 
   -- a call of a function that shall be a cancellation point goes on only without a request to act upon
-  unasked : (choice : Alt) (frame : Frame) (s : Stmt) → Goes choice (StatementIn frame s) status.Running → stop_at body shared t others frame s ≡ None → is_required (called_kind s) ≡ true → is_allowed_asynchronously s ≡ false
+  unasked : (choice : Alt) (frame : Frame) (s : Stmt) → Goes choice (StatementIn frame s) status.Running → stop_at body shared t environment frame s ≡ None → is_required (called_kind s) ≡ true → is_allowed_asynchronously s ≡ false
       → offered ≡ true → is_deliverable t.state t.pending ≡ false
   unasked choice frame s may none shall called known =
-      gone_on_at_required body shared t others choice frame s shall called (no_stops body shared t others frame s none).0 (no_stops body shared t others frame s none).1.0 (may known).0 (may known).1
+      gone_on_at_required body shared t environment choice frame s shall called (no_stops body shared t environment frame s none).0 (no_stops body shared t environment frame s none).1.0 (may known).0 (may known).1
 
-  running_case : (choice : Alt) (frame : Frame) (s : Stmt) → Goes choice (StatementIn frame s) status.Running → stop_at body shared t others frame s ≡ None
-      → Case (StatementIn frame s) status.Running (runs passes body shared t others choice frame s)
+  running_case : (choice : Alt) (frame : Frame) (s : Stmt) → Goes choice (StatementIn frame s) status.Running → stop_at body shared t environment frame s ≡ None
+      → Case (StatementIn frame s) status.Running (runs passes body shared t environment choice frame s)
   unfolding runs emits sets adds jumps calls gets_self ends_by_exit pushes sets_state sets_mode tests_cancel deletes_key sets_specific gets_specific locks unlocks begins_wait broadcasts begins_sem_wait posts registers_fork begins_fork exits ends_now stops_of called_kind
   running_case choice frame (statement.Emit v) may none = emitted frame v
   running_case choice frame (statement.Set d v) may none = variable_set frame d v
@@ -229,41 +247,41 @@ module _ (passes : ℕ) (body : List Stmt) (shared : SharedState) (t : Thread) (
   running_case choice frame (statement.If v) may none = jumped frame (statement.If v) (after_test body frame.pc (value frame v)) (past_if v)
   running_case choice frame statement.Else may none = jumped frame statement.Else (after_block body frame.pc) past_else
   running_case choice frame (statement.While v) may none = jumped frame (statement.While v) (after_test body frame.pc (value frame v)) (past_while v)
-  running_case choice frame statement.End may none = end_case frame (open_of body frame.pc) refl (alone (is_none (open_of body frame.pc) && exits_twice frame.kind shared) (no_stops body shared t others frame statement.End none).1.1)
-  running_case choice frame (statement.Do f v) may none = function_called frame f v (below_limit (length t.frames) MAX_FRAMES (alone (is_stack_full t.frames) (no_stops body shared t others frame (statement.Do f v) none).1.1))
-  running_case choice frame (statement.Return v) may none = return_case frame (statement.Return v) (value frame v) (by_return v) frame.kind refl (alone (exits_twice frame.kind shared) (no_stops body shared t others frame (statement.Return v) none).1.1)
+  running_case choice frame statement.End may none = end_case frame (open_of body frame.pc) refl (alone (is_none (open_of body frame.pc) && exits_twice frame.kind shared) (no_stops body shared t environment frame statement.End none).1.1)
+  running_case choice frame (statement.Do f v) may none = function_called frame f v (below_limit (length t.frames) MAX_FRAMES (alone (is_stack_full t.frames) (no_stops body shared t environment frame (statement.Do f v) none).1.1))
+  running_case choice frame (statement.Return v) may none = return_case frame (statement.Return v) (value frame v) (by_return v) frame.kind refl (alone (exits_twice frame.kind shared) (no_stops body shared t environment frame (statement.Return v) none).1.1)
   running_case choice frame (statement.Create result id f v detached) may none = create_case choice frame result id f v detached (may_be (λ known. (may known).0))
-  running_case choice frame (statement.Join id d) may none = join_case frame id d (unasked choice frame (statement.Join id d) may none shall_join refl) (others.named (value frame id)) refl (no_stops body shared t others frame (statement.Join id d) none).1.1
-  running_case choice frame (statement.Detach id) may none = detach_case frame id (others.named (value frame id)) refl (no_stops body shared t others frame (statement.Detach id) none).1.1
-  running_case choice frame (statement.CancelThread id) may none = request_case frame id (others.named (value frame id)) refl (no_stops body shared t others frame (statement.CancelThread id) none).1.1
+  running_case choice frame (statement.Join id d) may none = join_case frame id d (unasked choice frame (statement.Join id d) may none shall_join refl) (environment.named (value frame id)) refl (no_stops body shared t environment frame (statement.Join id d) none).1.1
+  running_case choice frame (statement.Detach id) may none = detach_case frame id (environment.named (value frame id)) refl (no_stops body shared t environment frame (statement.Detach id) none).1.1
+  running_case choice frame (statement.CancelThread id) may none = request_case frame id (environment.named (value frame id)) refl (no_stops body shared t environment frame (statement.CancelThread id) none).1.1
   running_case choice frame (statement.SelfId d) may none = self_got frame d
   running_case choice frame statement.TestCancel may none = cancel_tested frame (unasked choice frame statement.TestCancel may none shall_test refl)
-  running_case choice frame (statement.SetState enable old) may none = state_set frame enable old (alone (enable && is_in_handler t.frames) (no_stops body shared t others frame (statement.SetState enable old) none).1.1)
+  running_case choice frame (statement.SetState enable old) may none = state_set frame enable old (alone (enable && is_in_handler t.frames) (no_stops body shared t environment frame (statement.SetState enable old) none).1.1)
   running_case choice frame (statement.SetMode asynchronous old) may none = mode_set frame asynchronous old
   running_case choice frame (statement.PointCall index) may none = point_case frame index (λ shall. unasked choice frame (statement.PointCall index) may none shall refl) (point_kind index) refl
   running_case choice frame (statement.KeyCreate result key destructor) may none = create_key_case choice frame result key destructor (may_be (λ known. (may known).0))
-  running_case choice frame (statement.KeyDelete key) may none = key_deleted frame key (alone (is_none (key_with (value frame key) shared.keys)) (no_stops body shared t others frame (statement.KeyDelete key) none).1.1)
-  running_case choice frame (statement.SetSpecific key v) may none = specific_set frame key v (alone (is_none (key_with (value frame key) shared.keys)) (no_stops body shared t others frame (statement.SetSpecific key v) none).1.1)
+  running_case choice frame (statement.KeyDelete key) may none = key_deleted frame key (alone (is_none (key_with (value frame key) shared.keys)) (no_stops body shared t environment frame (statement.KeyDelete key) none).1.1)
+  running_case choice frame (statement.SetSpecific key v) may none = specific_set frame key v (alone (is_none (key_with (value frame key) shared.keys)) (no_stops body shared t environment frame (statement.SetSpecific key v) none).1.1)
   running_case choice frame (statement.GetSpecific d key) may none = specific_got frame d key
-  running_case choice frame (statement.ThreadExit v) may none = exit_called frame v (alone (has_begun_to_end t.reason) (no_stops body shared t others frame (statement.ThreadExit v) none).1.1)
-  running_case choice frame (statement.Push f v) may none = handler_pushed frame f v (below_limit (length t.handlers) MAX_HANDLERS (alone (not (nat_lt (length t.handlers) MAX_HANDLERS)) (no_stops body shared t others frame (statement.Push f v) none).1.1))
-  running_case choice frame (statement.Pop v) may none = pop_case frame v t.handlers refl (alone (not (nat_eq (value frame v) 0) && is_stack_full t.frames) (no_stops body shared t others frame (statement.Pop v) none).1.1)
+  running_case choice frame (statement.ThreadExit v) may none = exit_called frame v (alone (has_begun_to_end t.reason) (no_stops body shared t environment frame (statement.ThreadExit v) none).1.1)
+  running_case choice frame (statement.Push f v) may none = handler_pushed frame f v (below_limit (length t.handlers) MAX_HANDLERS (alone (not (nat_lt (length t.handlers) MAX_HANDLERS)) (no_stops body shared t environment frame (statement.Push f v) none).1.1))
+  running_case choice frame (statement.Pop v) may none = pop_case frame v t.handlers refl (alone (not (nat_eq (value frame v) 0) && is_stack_full t.frames) (no_stops body shared t environment frame (statement.Pop v) none).1.1)
   running_case choice frame (statement.Lock m) may none =
-      mutex_locked frame m (λ known. free_to_lock body shared t others choice frame m (no_stops body shared t others frame (statement.Lock m) none).0 (no_stops body shared t others frame (statement.Lock m) none).1.0 (may known).0)
-  running_case choice frame (statement.Unlock m) may none = mutex_unlocked frame m (not-false (owns t.id m shared) (alone (not (owns t.id m shared)) (no_stops body shared t others frame (statement.Unlock m) none).1.1))
+      mutex_locked frame m (λ known. free_to_lock body shared t environment choice frame m (no_stops body shared t environment frame (statement.Lock m) none).0 (no_stops body shared t environment frame (statement.Lock m) none).1.0 (may known).0)
+  running_case choice frame (statement.Unlock m) may none = mutex_unlocked frame m (not-false (owns t.id m shared) (alone (not (owns t.id m shared)) (no_stops body shared t environment frame (statement.Unlock m) none).1.1))
   running_case choice frame (statement.CondWait c m) may none =
-      let other : Bool = waits_with_another_mutex c m others in
-      let parts : (not (owns t.id m shared) ≡ false) × ((other || false) ≡ false) = or_parts (not (owns t.id m shared)) (other || false) (no_stops body shared t others frame (statement.CondWait c m) none).1.1 in
+      let other : Bool = waits_with_another_mutex c m environment in
+      let parts : (not (owns t.id m shared) ≡ false) × ((other || false) ≡ false) = or_parts (not (owns t.id m shared)) (other || false) (no_stops body shared t environment frame (statement.CondWait c m) none).1.1 in
       wait_begun frame c m (not-false (owns t.id m shared) parts.0) (alone other parts.1) (unasked choice frame (statement.CondWait c m) may none shall_wait refl)
   running_case choice frame (statement.Signal c) may none = signal_case choice frame c (may_be (λ known. (may known).0))
   running_case choice frame (statement.Broadcast c) may none = broadcast_sent frame c
   running_case choice frame (statement.SemWait sem) may none = sem_wait_begun frame sem (unasked choice frame (statement.SemWait sem) may none shall_wait_for_post refl)
   running_case choice frame (statement.SemPost sem) may none = sem_posted frame sem
   running_case choice frame (statement.AtFork result prepare parent child) may none = register_fork_case frame result prepare parent child (nat_lt (length shared.fork_handlers) MAX_FORK_HANDLERS) refl
-  running_case choice frame (statement.Fork result child) may none = fork_begun frame result child (alone (has_begun_to_end t.reason) (no_stops body shared t others frame (statement.Fork result child) none).1.1)
-  running_case choice frame (statement.WaitPid result pid d) may none = waitpid_case frame result d pid (unasked choice frame (statement.WaitPid result pid d) may none shall_wait_for_child refl) (others.family.child (value frame pid))
+  running_case choice frame (statement.Fork result child) may none = fork_begun frame result child (alone (has_begun_to_end t.reason) (no_stops body shared t environment frame (statement.Fork result child) none).1.1)
+  running_case choice frame (statement.WaitPid result pid d) may none = waitpid_case frame result d pid (unasked choice frame (statement.WaitPid result pid d) may none shall_wait_for_child refl) (environment.family.child (value frame pid))
   running_case choice frame (statement.AtExit result f) may none = register_case frame result f (may_register shared) refl
-  running_case choice frame (statement.ProcExit v) may none = process_exited frame v (alone (is_some shared.exit_value) (no_stops body shared t others frame (statement.ProcExit v) none).1.1)
+  running_case choice frame (statement.ProcExit v) may none = process_exited frame v (alone (is_some shared.exit_value) (no_stops body shared t environment frame (statement.ProcExit v) none).1.1)
   running_case choice frame (statement.ProcExitNow v) may none = process_ended_now frame v
 
   stop_case : (frame : Frame) (s : Stmt) (stop : Option Why) (other : Transition) → (stop ≡ None → Case (StatementIn frame s) status.Running other) → Case (StatementIn frame s) status.Running (stops_or stop other)
@@ -277,33 +295,33 @@ module _ (passes : ℕ) (body : List Stmt) (shared : SharedState) (t : Thread) (
   point_passed_case index (StatementIn frame (statement.PointCall i)) = point_passed frame index i
   point_passed_case index next = rests next (status.AtPoint index) (λ known. refl)
 
-  join_value_case : (id : ℕ) (target : Thread) → others.named id ≡ Some target → (s : Status) → target.status ≡ s → (next : NextStatement) → Case next (status.Joining id) (joins_at (exit_value_of s) id next)
+  join_value_case : (id : ℕ) (target : Thread) → environment.named id ≡ Some target → (s : Status) → target.status ≡ s → (next : NextStatement) → Case next (status.Joining id) (joins_at (exit_value_of s) id next)
   unfolding ends_join
   join_value_case id target is (status.Ended v) ended (StatementIn frame (statement.Join operand d)) = join_ended frame operand d id v target is ended
   join_value_case id target is s ended next = rests next (status.Joining id) (λ known. refl)
 
-  join_ended_case : (id : ℕ) (next : NextStatement) (found : Option Thread) → others.named id ≡ found → Case next (status.Joining id) (joins_at (option_and_then (λ u. exit_value_of u.status) found) id next)
+  join_ended_case : (id : ℕ) (next : NextStatement) (found : Option Thread) → environment.named id ≡ found → Case next (status.Joining id) (joins_at (option_and_then (λ u. exit_value_of u.status) found) id next)
   join_ended_case id next (Some target) is = join_value_case id target is target.status refl next
   join_ended_case id next None is = rests next (status.Joining id) (λ known. refl)
 
-  taken_case : (sem : ℕ) (next : NextStatement) → (offered ≡ true → goes_at shared others (status.InSem sem) ≡ true) → Case next (status.InSem sem) (takes sem (slice_index shared.counts sem) next)
-  unfolding takes
+  taken_case : (sem : ℕ) (next : NextStatement) → (offered ≡ true → goes_at shared environment (status.InSem sem) ≡ true) → Case next (status.InSem sem) (ends_sem_wait sem (slice_index shared.counts sem) next)
+  unfolding ends_sem_wait
   taken_case sem (StatementIn frame (statement.SemWait s)) above = sem_taken frame s sem above
   taken_case sem next above = rests next (status.InSem sem) (λ known. refl)
 
-  reacquired_case : (c m : ℕ) (why : Cause) (next : NextStatement) → (offered ≡ true → goes_at shared others (status.Reacquire c m why) ≡ true) → Case next (status.Reacquire c m why) (reacquires t.id c m why next)
+  reacquired_case : (c m : ℕ) (why : Cause) (next : NextStatement) → (offered ≡ true → goes_at shared environment (status.Reacquire c m why) ≡ true) → Case next (status.Reacquire c m why) (reacquires t.id c m why next)
   unfolding reacquires
   reacquired_case c m cause.Canceled next free = ended_in_wait next c m free
   reacquired_case c m why (StatementIn frame (statement.CondWait cond mutex)) free = wait_ended frame cond mutex c m why refl free
   reacquired_case c m why next free = rests next (status.Reacquire c m why) (λ known. refl)
 
-  reaped_case : (frame : Frame) (result d : Dest) (operand : Operand) (pid : ℕ) (child : Child) → others.family.child pid ≡ Some child → (ended : Option ℕ) → child.ended ≡ ended
+  reaped_case : (frame : Frame) (result d : Dest) (operand : Operand) (pid : ℕ) (child : Child) → environment.family.child pid ≡ Some child → (ended : Option ℕ) → child.ended ≡ ended
       → Case (StatementIn frame (statement.WaitPid result operand d)) (status.InWaitPid pid) (reaps_if ended pid (suc frame.pc) result d)
   unfolding reaps
   reaped_case frame result d operand pid child is (Some n) ended = child_reaped frame result d operand pid n child is ended
   reaped_case frame result d operand pid child is None ended = rests (StatementIn frame (statement.WaitPid result operand d)) (status.InWaitPid pid) (λ known. refl)
 
-  waited_case : (pid : ℕ) (found : Option Child) → others.family.child pid ≡ found → (next : NextStatement) → Case next (status.InWaitPid pid) (waits_at found pid next)
+  waited_case : (pid : ℕ) (found : Option Child) → environment.family.child pid ≡ found → (next : NextStatement) → Case next (status.InWaitPid pid) (waits_at found pid next)
   unfolding finds_no_child
   waited_case pid (Some child) is (StatementIn frame (statement.WaitPid result operand d)) = reaped_case frame result d operand pid child is child.ended refl
   waited_case pid None is (StatementIn frame (statement.WaitPid result operand d)) = child_lost frame result d operand pid
@@ -311,7 +329,7 @@ module _ (passes : ℕ) (body : List Stmt) (shared : SharedState) (t : Thread) (
 
   -- ---- threads in fork
 
-  forked_case : (at : ForkAt) → at.phase ≡ Prepare → (next : NextStatement) (new_pid : Option ℕ) → others.family.new_pid ≡ new_pid → Case next (status.Forking at) (forks_by at.length new_pid)
+  forked_case : (at : ForkAt) → at.phase ≡ Prepare → (next : NextStatement) (new_pid : Option ℕ) → environment.family.new_pid ≡ new_pid → Case next (status.Forking at) (forks_by at.length new_pid)
   unfolding forks_by
   forked_case at prepares next (Some new) is = process_forked next at new prepares is
   forked_case at prepares next None is = process_not_forked next at prepares
@@ -322,15 +340,15 @@ module _ (passes : ℕ) (body : List Stmt) (shared : SharedState) (t : Thread) (
   parent_case frame result child at returns false = fork_returned frame result child at at.answer
 
   -- a thread in fork goes on where no handler of the phase is left
-  phase_case : (phase : Phase) (at : ForkAt) → at.phase ≡ phase → (next : NextStatement) → Case next (status.Forking at) (goes_on_after_handlers phase at others.family.new_pid next)
+  phase_case : (phase : Phase) (at : ForkAt) → at.phase ≡ phase → (next : NextStatement) → Case next (status.Forking at) (goes_on_after_handlers phase at environment.family.new_pid next)
   unfolding returns_in_parent returns_in_child
-  phase_case Prepare at is next = forked_case at is next others.family.new_pid refl
+  phase_case Prepare at is next = forked_case at is next environment.family.new_pid refl
   phase_case Parent at is (StatementIn frame (statement.Fork result child)) = parent_case frame result child at is (nat_eq at.answer 0)
   phase_case ChildPhase at is (StatementIn frame (statement.Fork result child)) = fork_returned frame result child at 0
   phase_case phase at is next = rests next (status.Forking at) (λ known. refl)
 
   -- a thread in fork goes on: it calls the handler that is left, if one is
-  forking_case : (at : ForkAt) (next : NextStatement) (left : Option HandlerCall) → next_handler shared.fork_handlers at ≡ left → Case next (status.Forking at) (goes_on_forking left at others.family.new_pid next)
+  forking_case : (at : ForkAt) (next : NextStatement) (left : Option HandlerCall) → next_handler shared.fork_handlers at ≡ left → Case next (status.Forking at) (goes_on_forking left at environment.family.new_pid next)
   unfolding calls_handler
   forking_case at next (Some call) is = fork_handler_called next at call is
   forking_case at next None is = phase_case at.phase at refl next
@@ -362,33 +380,33 @@ module _ (passes : ℕ) (body : List Stmt) (shared : SharedState) (t : Thread) (
     ended_by none_left left all last true is = thread_ended next no_handlers (sym all ∙ eqb-true left 0 is) none_left
     ended_by none_left left all last false is = let some : 0 < left = pos_of_ne-zero (eqb-false left 0 is) in thread_ended_with_keys next left no_handlers some (last some) all none_left
 
-    last_ended_by : NoneLeft → others.is_last ≡ true → (left : ℕ) → left ≡ due → (0 < left → passes ≤ t.pass) → (none : Bool) → nat_eq left 0 ≡ none
+    last_ended_by : NoneLeft → environment.is_last ≡ true → (left : ℕ) → left ≡ due → (0 < left → passes ≤ t.pass) → (none : Bool) → nat_eq left 0 ≡ none
         → Case next status.Ending (record (acts (cond none [] (what.Leftover left ∷ []) ++ what.EndedWith (end_value t.reason) ∷ what.ExitBegun 0 ∷ [])) { own = Some own_action.EndLast; shared = Some (shared_action.BeginExit 0) })
     last_ended_by none_left is_last left all last true is = last_ended next no_handlers is_last (sym all ∙ eqb-true left 0 is) none_left
     last_ended_by none_left is_last left all last false is = let some : 0 < left = pos_of_ne-zero (eqb-false left 0 is) in last_ended_with_keys next left no_handlers is_last some (last some) all none_left
 
-    ended_case : NoneLeft → (left : ℕ) → left ≡ due → (0 < left → passes ≤ t.pass) → (is_last : Bool) → others.is_last ≡ is_last → Case next status.Ending (ends_thread is_last left (end_value t.reason))
+    ended_case : NoneLeft → (left : ℕ) → left ≡ due → (0 < left → passes ≤ t.pass) → (is_last : Bool) → environment.is_last ≡ is_last → Case next status.Ending (ends_thread is_last left (end_value t.reason))
     unfolding ends_thread
     ended_case none_left left all last true is = last_ended_by none_left is left all last (nat_eq left 0) refl
     ended_case none_left left all last false is = ended_by none_left left all last (nat_eq left 0) refl
 
     -- keys are due, and the limit allows a pass
     pass_by : NoneLeft → (left : ℕ) → left ≡ due → (some more : Bool) → not (nat_eq left 0) ≡ some → nat_lt t.pass passes ≡ more
-        → Case next status.Ending (cond (some && more) (record (acts (what.PassBegun (suc t.pass) ∷ [])) { own = Some own_action.BeginPass }) (ends_thread others.is_last left (end_value t.reason)))
+        → Case next status.Ending (cond (some && more) (record (acts (what.PassBegun (suc t.pass) ∷ [])) { own = Some own_action.BeginPass }) (ends_thread environment.is_last left (end_value t.reason)))
     pass_by none_left left all true true is below = pass_begun next no_handlers (ltb-true t.pass passes below) (subst (λ n. 0 < n) all (pos_of_ne-zero (eqb-false left 0 (not-true (nat_eq left 0) is)))) none_left
-    pass_by none_left left all true false is past = ended_case none_left left all (λ some. ltb-false t.pass passes past) others.is_last refl
+    pass_by none_left left all true false is past = ended_case none_left left all (λ some. ltb-false t.pass passes past) environment.is_last refl
     pass_by none_left left all false more is limit =
         let nothing : left ≡ 0 = eqb-true left 0 (not-false (nat_eq left 0) is) in
-        ended_case none_left left all (λ some. absurd (omega (arith, some, nothing))) others.is_last refl
+        ended_case none_left left all (λ some. absurd (omega (arith, some, nothing))) environment.is_last refl
 
   ending_case : (choice : Alt) (next : NextStatement) → Legal choice next status.Ending → (handlers : List (ℕ × ℕ)) → t.handlers ≡ handlers
-      → Case next status.Ending (goes_on_ending others.is_last passes shared.keys t choice handlers)
+      → Case next status.Ending (goes_on_ending environment.is_last passes shared.keys t choice handlers)
   unfolding goes_on_ending
   ending_case choice next may ((f, a) ∷ handlers) is = handler_run next f a handlers is
   ending_case (alt.Dtor k) next may [] is = destructor_case next is k (λ known. left_among (may_be may known)) (key_with k shared.keys) refl
   ending_case choice next may [] is =
       let due : ℕ = due_keys shared.keys t in
-      pass_by next is (λ known. no_key_left body shared t others choice next is refl (may known)) due refl (not (nat_eq due 0)) (nat_lt t.pass passes) refl refl
+      pass_by next is (λ known. no_key_left body shared t environment choice next is refl (may known)) due refl (not (nat_eq due 0)) (nat_lt t.pass passes) refl refl
 
   exit_case : (next : NextStatement) (functions : List ℕ) → shared.exit_functions ≡ functions → (exit_value : Option ℕ) → shared.exit_value ≡ exit_value → Case next status.Exiting (goes_on_exiting functions exit_value)
   unfolding goes_on_exiting ends_now
@@ -399,26 +417,26 @@ module _ (passes : ℕ) (body : List Stmt) (shared : SharedState) (t : Thread) (
   -- ---- the table
 
   -- where the thread goes on
-  pub going_case : (choice : Alt) (next : NextStatement) (s : Status) → Goes choice next s → Case next s (transition_at passes body shared t others choice next s)
+  pub going_case : (choice : Alt) (next : NextStatement) (s : Status) → Goes choice next s → Case next s (transition_at passes body shared t environment choice next s)
   unfolding transition_at
-  going_case choice (StatementIn frame s) status.Running may = stop_case frame s (stop_at body shared t others frame s) (runs passes body shared t others choice frame s) (running_case choice frame s may)
+  going_case choice (StatementIn frame s) status.Running may = stop_case frame s (stop_at body shared t environment frame s) (runs passes body shared t environment choice frame s) (running_case choice frame s may)
   going_case choice next (status.AtPoint index) may = point_passed_case index next
-  going_case choice next (status.Joining id) may = join_ended_case id next (others.named id) refl
+  going_case choice next (status.Joining id) may = join_ended_case id next (environment.named id) refl
   going_case choice next (status.InSem sem) may = taken_case sem next (goes choice next (status.InSem sem) may)
-  going_case choice next (status.InWaitPid pid) may = waited_case pid (others.family.child pid) refl next
+  going_case choice next (status.InWaitPid pid) may = waited_case pid (environment.family.child pid) refl next
   going_case choice next (status.Reacquire c m why) may = reacquired_case c m why next (goes choice next (status.Reacquire c m why) may)
   going_case choice next status.Ending may = ending_case choice next (λ known. (may known).0) t.handlers refl
   going_case choice next (status.Forking at) may = forking_case at next (next_handler shared.fork_handlers at) refl
   going_case choice next status.Exiting may = exit_case next shared.exit_functions refl shared.exit_value refl
-  going_case choice next s may = rests next s (λ known. offered_alive (offered_of body shared t others choice next s (may known).0))
+  going_case choice next s may = rests next s (λ known. offered_alive (offered_of body shared t environment choice next s (may known).0))
 
-  handing_case : (u : ℕ) (next : NextStatement) (c m : ℕ) → (offered ≡ true → Offered shared t others next (status.Reacquire c m cause.Signalled) (alt.Act u)) → (none : Bool) → nat_eq u 0 ≡ none
+  handing_case : (u : ℕ) (next : NextStatement) (c m : ℕ) → (offered ≡ true → Offered shared t environment next (status.Reacquire c m cause.Signalled) (alt.Act u)) → (none : Bool) → nat_eq u 0 ≡ none
       → Case next (status.Reacquire c m cause.Signalled) (cond none (leaves_wait c m) (record (acts (what.WaitCanceled c ∷ what.HandedOn c u ∷ [])) { own = Some (own_action.SetStatus (status.Reacquire c m cause.Canceled)); named = Some (named_action.Wake u) }))
   unfolding leaves_wait
   handing_case u next c m may true is = canceled_after_wait next c m cause.Signalled refl (λ known. act_delivered (may known))
   handing_case u next c m may false is = signal_handed_on next c m u (λ known. act_delivered (may known)) (λ known. heir_among (may known) is)
 
-  acting_case : (n : ℕ) (next : NextStatement) (s : Status) → (offered ≡ true → Offered shared t others next s (alt.Act n)) → Case next s (acts_on_request n s)
+  acting_case : (n : ℕ) (next : NextStatement) (s : Status) → (offered ≡ true → Offered shared t environment next s (alt.Act n)) → Case next s (acts_on_request n s)
   unfolding acts_on_request leaves_wait hands_on
   acting_case n next status.Running may = canceled next (λ known. act_delivered (may known)) (λ known. act_where_it_may (may known))
   acting_case n next (status.AtPoint index) may = canceled_at_point next index (λ known. act_delivered (may known))
@@ -431,6 +449,6 @@ module _ (passes : ℕ) (body : List Stmt) (shared : SharedState) (t : Thread) (
   acting_case n next s may = rests next s (λ known. offered_alive (may known))
 
   -- the case of the transition that a choice makes
-  pub case_of : (choice : Alt) (next : NextStatement) (s : Status) → Legal choice next s → Case next s (acts_or choice s (transition_at passes body shared t others choice next s))
+  pub case_of : (choice : Alt) (next : NextStatement) (s : Status) → Legal choice next s → Case next s (acts_or choice s (transition_at passes body shared t environment choice next s))
   case_of (alt.Act n) next s may = acting_case n next s (may_be may)
   case_of choice next s may = going_case choice next s (λ known. (may known, refl))

@@ -1,12 +1,12 @@
 -- The choices that a thread is offered, by case.
 use Rattle.pct_names.proofs.Names.{◌&&◌, ◌++◌, [], act_if, AllByRecursion, Alt, and_parts, ap, Asynchronous, Bool, called_kind, Cause}
-use Rattle.pct_names.proofs.Names.{ChoiceRow, choices_at, cond, Deferred, Dest, Disable, dtor_or_go, Enable, ending_choices, false}
-use Rattle.pct_names.proofs.Names.{false≢true, first_row, Frame, go_if, hand_on_or_act, inl, inr, is_allowed_asynchronously}
+use Rattle.pct_names.proofs.Names.{ChoiceRow, choices_at, cond, Deferred, Dest, Disable, dtor_or_go, Enable, ending_choices, Environment}
+use Rattle.pct_names.proofs.Names.{false, false≢true, first_row, Frame, go_if, hand_on_or_act, inl, inr, is_allowed_asynchronously}
 use Rattle.pct_names.proofs.Names.{is_asynchronous, is_at_cancellation_point, is_blocked, is_create, is_deliverable, is_ended_status}
 use Rattle.pct_names.proofs.Names.{is_ended_thread, is_forbidden_in_child, is_free_mutex, is_key_create, is_optional, is_required}
-use Rattle.pct_names.proofs.Names.{is_running_child, is_signal, is_some, left_keys, List, list_any, map, may_return, Mode, nat_eq, nat_lt}
-use Rattle.pct_names.proofs.Names.{new_keys, new_or_go, NextStatement, None, not, offers, Operand, Option, Optional, or_cases, or_left}
-use Rattle.pct_names.proofs.Names.{or_right, Others, pick_or_go, PointKind, refl, Required, running_choices, running_rows, same_choice}
+use Rattle.pct_names.proofs.Names.{is_running_child, is_signal, is_some, left_keys, List, list_any, map, may_pass_point, Mode, nat_eq}
+use Rattle.pct_names.proofs.Names.{nat_lt, new_keys, new_or_go, NextStatement, None, not, offers, Operand, Option, Optional, or_cases}
+use Rattle.pct_names.proofs.Names.{or_left, or_right, pick_or_go, PointKind, refl, Required, running_choices, running_rows, same_choice}
 use Rattle.pct_names.proofs.Names.{SharedState, slice_index, Some, State, StatementIn, Status, Stmt, subst, sym, Thread, true}
 use Rattle.pct_names.proofs.Names.{unblocked_acts, waiters_to_signal, ℕ, ◌∙◌, ◌∷◌, ◌≡◌}
 use Rattle.std.proofs.Common.{eqb-true, eq-eqb}
@@ -29,81 +29,81 @@ is_destroying (alt.Dtor k) = true
 is_destroying _ = false
 
 -- a thread with this status may go on: what the status waits for, if it waits, has occurred
-abbrev pub goes_at : SharedState → Others → Status → Bool
-goes_at shared others (status.AtPoint index) = may_return index
-goes_at shared others (status.Joining id) = is_ended_thread id others
-goes_at shared others (status.InSem sem) = nat_lt 0 (slice_index shared.counts sem)
-goes_at shared others (status.InWaitPid pid) = not (is_running_child pid others.family)
-goes_at shared others (status.Waiting c m) = false
-goes_at shared others (status.Reacquire c m why) = is_free_mutex m shared
-goes_at shared others (status.Ended v) = false
-goes_at shared others _ = true
+abbrev pub goes_at : SharedState → Environment → Status → Bool
+goes_at shared environment (status.AtPoint index) = may_pass_point index
+goes_at shared environment (status.Joining id) = is_ended_thread id environment
+goes_at shared environment (status.InSem sem) = nat_lt 0 (slice_index shared.counts sem)
+goes_at shared environment (status.InWaitPid pid) = not (is_running_child pid environment.family)
+goes_at shared environment (status.Waiting c m) = false
+goes_at shared environment (status.Reacquire c m why) = is_free_mutex m shared
+goes_at shared environment (status.Ended v) = false
+goes_at shared environment _ = true
 
 -- a choice that is offered to a thread, and what is known of the thread then. A new case is needed only for a choice of a new kind
-pub data Offered (shared : SharedState) (t : Thread) (others : Others) : NextStatement → Status → Alt → Type 0 where
+pub data Offered (shared : SharedState) (t : Thread) (environment : Environment) : NextStatement → Status → Alt → Type 0 where
   -- the thread goes on
-  may_go : (next : NextStatement) (s : Status) → goes_at shared others s ≡ true → Offered shared t others next s alt.Go
+  may_go : (next : NextStatement) (s : Status) → goes_at shared environment s ≡ true → Offered shared t environment next s alt.Go
   -- it acts upon a request that is pending: at a cancellation point, or anywhere with asynchronous cancelability
-  may_act : (next : NextStatement) (s : Status) → is_ended_status s ≡ false → is_deliverable t.state t.pending ≡ true → (is_at_cancellation_point next s ≡ false → t.mode ≡ Asynchronous) → Offered shared t others next s (alt.Act 0)
+  may_act : (next : NextStatement) (s : Status) → is_ended_status s ≡ false → is_deliverable t.state t.pending ≡ true → (is_at_cancellation_point next s ≡ false → t.mode ≡ Asynchronous) → Offered shared t environment next s (alt.Act 0)
   -- it does so after a signal unblocked it, and hands the signal on to one of the threads that wait
-  may_hand_on : (next : NextStatement) (c m u : ℕ) → is_deliverable t.state t.pending ≡ true → list_any (λ waiter. nat_eq u waiter.id) (others.waiters c) ≡ true → Offered shared t others next (status.Reacquire c m cause.Signalled) (alt.Act u)
+  may_hand_on : (next : NextStatement) (c m u : ℕ) → is_deliverable t.state t.pending ≡ true → list_any (λ waiter. nat_eq u waiter.id) (environment.waiters c) ≡ true → Offered shared t environment next (status.Reacquire c m cause.Signalled) (alt.Act u)
   -- it signals a condition variable, and unblocks one of the threads that wait
-  may_pick : (frame : Frame) (c u : ℕ) → list_any (λ waiter. nat_eq u waiter.id) (others.waiters c) ≡ true → Offered shared t others (StatementIn frame (statement.Signal c)) status.Running (alt.Pick u)
+  may_pick : (frame : Frame) (c u : ℕ) → list_any (λ waiter. nat_eq u waiter.id) (environment.waiters c) ≡ true → Offered shared t environment (StatementIn frame (statement.Signal c)) status.Running (alt.Pick u)
   -- it creates a thread, or makes a key, with one of the numbers that are free
-  may_create : (frame : Frame) (result id : Dest) (f : ℕ) (v : Operand) (detached : Bool) (n : ℕ) → list_any (nat_eq n) others.new_ids ≡ true
-      → Offered shared t others (StatementIn frame (statement.Create result id f v detached)) status.Running (alt.New n)
+  may_create : (frame : Frame) (result id : Dest) (f : ℕ) (v : Operand) (detached : Bool) (n : ℕ) → list_any (nat_eq n) environment.new_ids ≡ true
+      → Offered shared t environment (StatementIn frame (statement.Create result id f v detached)) status.Running (alt.New n)
   may_make_key : (frame : Frame) (result key : Dest) (destructor : Option ℕ) (n : ℕ) → list_any (nat_eq n) (new_keys shared.keys) ≡ true
-      → Offered shared t others (StatementIn frame (statement.KeyCreate result key destructor)) status.Running (alt.New n)
+      → Offered shared t environment (StatementIn frame (statement.KeyCreate result key destructor)) status.Running (alt.New n)
   -- it has no handler, and calls the destructor of a key that is left in its pass
-  may_destroy : (next : NextStatement) (k : ℕ) → t.handlers ≡ [] → list_any (nat_eq k) (left_keys shared.keys t.specific) ≡ true → Offered shared t others next status.Ending (alt.Dtor k)
+  may_destroy : (next : NextStatement) (k : ℕ) → t.handlers ≡ [] → list_any (nat_eq k) (left_keys shared.keys t.specific) ≡ true → Offered shared t environment next status.Ending (alt.Dtor k)
 
 -- ---- what each case has
 
 -- a thread that may go on has not ended
-going_alive : (shared : SharedState) (others : Others) (s : Status) → goes_at shared others s ≡ true → is_ended_status s ≡ false
-going_alive shared others (status.Ended v) goes = absurd (false≢true goes)
-going_alive shared others _ goes = refl
+going_alive : (shared : SharedState) (environment : Environment) (s : Status) → goes_at shared environment s ≡ true → is_ended_status s ≡ false
+going_alive shared environment (status.Ended v) goes = absurd (false≢true goes)
+going_alive shared environment _ goes = refl
 
-module _ {shared : SharedState} {t : Thread} {others : Others} where
+module _ {shared : SharedState} {t : Thread} {environment : Environment} where
   -- a thread that has a choice does not have the status of its end
-  pub offered_alive : {next : NextStatement} {s : Status} {choice : Alt} → Offered shared t others next s choice → is_ended_status s ≡ false
-  offered_alive (may_go next s goes) = going_alive shared others s goes
+  pub offered_alive : {next : NextStatement} {s : Status} {choice : Alt} → Offered shared t environment next s choice → is_ended_status s ≡ false
+  offered_alive (may_go next s goes) = going_alive shared environment s goes
   offered_alive (may_act next s alive delivered where_it_may) = alive
   offered_alive _ = refl
 
   -- what a thread waits for has occurred, where its choice is not to act upon a request
-  pub may_go_on : {next : NextStatement} {s : Status} {choice : Alt} → Offered shared t others next s choice → is_acting choice ≡ false → goes_at shared others s ≡ true
+  pub may_go_on : {next : NextStatement} {s : Status} {choice : Alt} → Offered shared t environment next s choice → is_acting choice ≡ false → goes_at shared environment s ≡ true
   may_go_on (may_go next s goes) other = goes
   may_go_on (may_act next s alive delivered where_it_may) other = absurd (true≢false other)
   may_go_on (may_hand_on next c m u delivered among) other = absurd (true≢false other)
   may_go_on _ other = refl
 
   -- a thread that may act upon a request has one pending, and its cancelability enabled
-  pub act_delivered : {next : NextStatement} {s : Status} {n : ℕ} → Offered shared t others next s (alt.Act n) → is_deliverable t.state t.pending ≡ true
+  pub act_delivered : {next : NextStatement} {s : Status} {n : ℕ} → Offered shared t environment next s (alt.Act n) → is_deliverable t.state t.pending ≡ true
   act_delivered (may_act next s alive delivered where_it_may) = delivered
   act_delivered (may_hand_on next c m u delivered among) = delivered
 
   -- it is at a cancellation point, or its cancelability is asynchronous
-  pub act_where_it_may : {next : NextStatement} {s : Status} {n : ℕ} → Offered shared t others next s (alt.Act n) → is_at_cancellation_point next s ≡ false → t.mode ≡ Asynchronous
+  pub act_where_it_may : {next : NextStatement} {s : Status} {n : ℕ} → Offered shared t environment next s (alt.Act n) → is_at_cancellation_point next s ≡ false → t.mode ≡ Asynchronous
   act_where_it_may (may_act next s alive delivered where_it_may) elsewhere = where_it_may elsewhere
   act_where_it_may (may_hand_on next c m u delivered among) elsewhere = absurd (true≢false elsewhere)
 
   -- the thread to which a signal is handed on, or which a signal unblocks, is among those that wait
-  pub heir_among : {next : NextStatement} {c m u : ℕ} → Offered shared t others next (status.Reacquire c m cause.Signalled) (alt.Act u) → nat_eq u 0 ≡ false → list_any (λ waiter. nat_eq u waiter.id) (others.waiters c) ≡ true
+  pub heir_among : {next : NextStatement} {c m u : ℕ} → Offered shared t environment next (status.Reacquire c m cause.Signalled) (alt.Act u) → nat_eq u 0 ≡ false → list_any (λ waiter. nat_eq u waiter.id) (environment.waiters c) ≡ true
   heir_among (may_act next s alive delivered where_it_may) some = absurd (true≢false some)
   heir_among (may_hand_on next c m u delivered among) some = among
 
-  pub picked_among : {frame : Frame} {c u : ℕ} → Offered shared t others (StatementIn frame (statement.Signal c)) status.Running (alt.Pick u) → list_any (λ waiter. nat_eq u waiter.id) (others.waiters c) ≡ true
+  pub picked_among : {frame : Frame} {c u : ℕ} → Offered shared t environment (StatementIn frame (statement.Signal c)) status.Running (alt.Pick u) → list_any (λ waiter. nat_eq u waiter.id) (environment.waiters c) ≡ true
   picked_among (may_pick frame c u among) = among
 
   -- the id of a new thread, the number of a new key, and the key of a destructor are among those that are offered
-  pub id_among : {frame : Frame} {result id : Dest} {f : ℕ} {v : Operand} {detached : Bool} {n : ℕ} → Offered shared t others (StatementIn frame (statement.Create result id f v detached)) status.Running (alt.New n) → list_any (nat_eq n) others.new_ids ≡ true
+  pub id_among : {frame : Frame} {result id : Dest} {f : ℕ} {v : Operand} {detached : Bool} {n : ℕ} → Offered shared t environment (StatementIn frame (statement.Create result id f v detached)) status.Running (alt.New n) → list_any (nat_eq n) environment.new_ids ≡ true
   id_among (may_create frame result id f v detached n among) = among
 
-  pub key_among : {frame : Frame} {result key : Dest} {destructor : Option ℕ} {n : ℕ} → Offered shared t others (StatementIn frame (statement.KeyCreate result key destructor)) status.Running (alt.New n) → list_any (nat_eq n) (new_keys shared.keys) ≡ true
+  pub key_among : {frame : Frame} {result key : Dest} {destructor : Option ℕ} {n : ℕ} → Offered shared t environment (StatementIn frame (statement.KeyCreate result key destructor)) status.Running (alt.New n) → list_any (nat_eq n) (new_keys shared.keys) ≡ true
   key_among (may_make_key frame result key destructor n among) = among
 
-  pub left_among : {next : NextStatement} {s : Status} {k : ℕ} → Offered shared t others next s (alt.Dtor k) → list_any (nat_eq k) (left_keys shared.keys t.specific) ≡ true
+  pub left_among : {next : NextStatement} {s : Status} {k : ℕ} → Offered shared t environment next s (alt.Dtor k) → list_any (nat_eq k) (left_keys shared.keys t.specific) ≡ true
   left_among (may_destroy next k none among) = among
 
 -- ---- lists of choices
@@ -202,24 +202,24 @@ none_left choice (k ∷ keys) other offered = absurd (true≢false (sym (number_
 
 -- ---- the table
 
-module _ (body : List Stmt) (shared : SharedState) (t : Thread) (others : Others) (choice : Alt) where
+module _ (body : List Stmt) (shared : SharedState) (t : Thread) (environment : Environment) (choice : Alt) where
   -- a running thread
-  id_offered : (frame : Frame) (s : Stmt) → is_create s ≡ true → (n : ℕ) → list_any (nat_eq n) others.new_ids ≡ true → Offered shared t others (StatementIn frame s) status.Running (alt.New n)
+  id_offered : (frame : Frame) (s : Stmt) → is_create s ≡ true → (n : ℕ) → list_any (nat_eq n) environment.new_ids ≡ true → Offered shared t environment (StatementIn frame s) status.Running (alt.New n)
   id_offered frame (statement.Create result id f v detached) is n among = may_create frame result id f v detached n among
   id_offered frame _ is n among = absurd (false≢true is)
 
-  key_offered : (frame : Frame) (s : Stmt) → is_key_create s ≡ true → (n : ℕ) → list_any (nat_eq n) (new_keys shared.keys) ≡ true → Offered shared t others (StatementIn frame s) status.Running (alt.New n)
+  key_offered : (frame : Frame) (s : Stmt) → is_key_create s ≡ true → (n : ℕ) → list_any (nat_eq n) (new_keys shared.keys) ≡ true → Offered shared t environment (StatementIn frame s) status.Running (alt.New n)
   key_offered frame (statement.KeyCreate result key destructor) is n among = may_make_key frame result key destructor n among
   key_offered frame _ is n among = absurd (false≢true is)
 
-  pick_offered : (frame : Frame) (s : Stmt) → is_signal s ≡ true → (u : ℕ) → list_any (λ waiter. nat_eq u waiter.id) (waiters_to_signal others s) ≡ true → Offered shared t others (StatementIn frame s) status.Running (alt.Pick u)
+  pick_offered : (frame : Frame) (s : Stmt) → is_signal s ≡ true → (u : ℕ) → list_any (λ waiter. nat_eq u waiter.id) (waiters_to_signal environment s) ≡ true → Offered shared t environment (StatementIn frame s) status.Running (alt.Pick u)
   pick_offered frame (statement.Signal c) is u among = may_pick frame c u among
   pick_offered frame _ is u among = absurd (false≢true is)
 
-  running_offered : (frame : Frame) (s : Stmt) → offers (running_choices body shared t others frame s) choice ≡ true → Offered shared t others (StatementIn frame s) status.Running choice
+  running_offered : (frame : Frame) (s : Stmt) → offers (running_choices body shared t environment frame s) choice ≡ true → Offered shared t environment (StatementIn frame s) status.Running choice
   unfolding running_choices running_rows
   running_offered frame s =
-      let P : Alt → Type 0 = Offered shared t others (StatementIn frame s) status.Running in
+      let P : Alt → Type 0 = Offered shared t environment (StatementIn frame s) status.Running in
       let go : P alt.Go = may_go (StatementIn frame s) status.Running refl in
       let asynchronous_act : is_asynchronous t.state t.mode ≡ true → t.pending ≡ true → P (alt.Act 0) = λ asynchronous pending.
       may_act (StatementIn frame s) status.Running refl (asynchronous_deliverable t.state t.mode t.pending asynchronous pending) (λ elsewhere. asynchronous_mode t.state t.mode asynchronous) in
@@ -228,7 +228,7 @@ module _ (body : List Stmt) (shared : SharedState) (t : Thread) (others : Others
       may_act (StatementIn frame s) status.Running refl parts.0 (λ elsewhere. absurd (true≢false (sym (point parts.1) ∙ elsewhere))) in
       let new_has : (numbers : List ℕ) → ((n : ℕ) → list_any (nat_eq n) numbers ≡ true → P (alt.New n)) → offers (new_or_go numbers) choice ≡ true → P choice =
       number_or_has P choice new_or_go (λ n. alt.New n) (λ n. n) alt.Go refl (λ n numbers. refl) go in
-      first_row_has (λ choices. offers choices choice ≡ true → P choice) (running_rows body shared t others frame s) (alt.Go ∷ []) (
+      first_row_has (λ choices. offers choices choice ≡ true → P choice) (running_rows body shared t environment frame s) (alt.Go ∷ []) (
         λ forbidden. each_has P choice (alt.Go ∷ []) (go, tt),
         (
           λ asynchronous. go_or_has P choice true (act_if t.pending) (λ passes. go) (act_has P choice t.pending (asynchronous_act asynchronous)),
@@ -239,10 +239,10 @@ module _ (body : List Stmt) (shared : SharedState) (t : Thread) (others : Others
               (
                 λ blocked. each_has P choice [] tt,
                 (
-                  λ creates. new_has others.new_ids (id_offered frame s creates),
+                  λ creates. new_has environment.new_ids (id_offered frame s creates),
                   (
                     λ creates. new_has (new_keys shared.keys) (key_offered frame s creates),
-                    (λ signals. number_or_has P choice pick_or_go (λ u. alt.Pick u) (λ waiter. waiter.id) alt.Go refl (λ waiter waiters. refl) go (waiters_to_signal others s) (pick_offered frame s signals), tt),
+                    (λ signals. number_or_has P choice pick_or_go (λ u. alt.Pick u) (λ waiter. waiter.id) alt.Go refl (λ waiter waiters. refl) go (waiters_to_signal environment s) (pick_offered frame s signals), tt),
                   ),
                 ),
               ),
@@ -253,29 +253,29 @@ module _ (body : List Stmt) (shared : SharedState) (t : Thread) (others : Others
       (each_has P choice (alt.Go ∷ []) (go, tt))
 
   -- a thread that is suspended at a cancellation point
-  suspended_offered : (next : NextStatement) (s : Status) → is_ended_status s ≡ false → is_at_cancellation_point next s ≡ true → offers (go_if (goes_at shared others s) ++ act_if (is_deliverable t.state t.pending)) choice ≡ true → Offered shared t others next s choice
+  suspended_offered : (next : NextStatement) (s : Status) → is_ended_status s ≡ false → is_at_cancellation_point next s ≡ true → offers (go_if (goes_at shared environment s) ++ act_if (is_deliverable t.state t.pending)) choice ≡ true → Offered shared t environment next s choice
   suspended_offered next s alive at_point =
-      let P : Alt → Type 0 = Offered shared t others next s in
-      go_or_has P choice (goes_at shared others s) (act_if (is_deliverable t.state t.pending)) (may_go next s) (act_has P choice (is_deliverable t.state t.pending) (λ delivered. may_act next s alive delivered (λ elsewhere. absurd (true≢false (sym at_point ∙ elsewhere)))))
+      let P : Alt → Type 0 = Offered shared t environment next s in
+      go_or_has P choice (goes_at shared environment s) (act_if (is_deliverable t.state t.pending)) (may_go next s) (act_has P choice (is_deliverable t.state t.pending) (λ delivered. may_act next s alive delivered (λ elsewhere. absurd (true≢false (sym at_point ∙ elsewhere)))))
 
   -- a thread that was unblocked on a condition variable
-  unblocked_offered : (next : NextStatement) (c m : ℕ) (why : Cause) (delivered : Bool) → (delivered ≡ true → is_deliverable t.state t.pending ≡ true) → offers (cond delivered (unblocked_acts why (others.waiters c)) []) choice ≡ true → Offered shared t others next (status.Reacquire c m why) choice
+  unblocked_offered : (next : NextStatement) (c m : ℕ) (why : Cause) (delivered : Bool) → (delivered ≡ true → is_deliverable t.state t.pending ≡ true) → offers (cond delivered (unblocked_acts why (environment.waiters c)) []) choice ≡ true → Offered shared t environment next (status.Reacquire c m why) choice
   unblocked_offered next c m cause.Signalled true is offered =
-      number_or_has (Offered shared t others next (status.Reacquire c m cause.Signalled)) choice hand_on_or_act (λ u. alt.Act u) (λ waiter. waiter.id) (alt.Act 0) refl (λ waiter waiters. refl)
-      (may_act next (status.Reacquire c m cause.Signalled) refl (is refl) (λ elsewhere. absurd (true≢false elsewhere))) (others.waiters c) (λ u among. may_hand_on next c m u (is refl) among) offered
-  unblocked_offered next c m cause.Broadcast true is offered = each_has (Offered shared t others next (status.Reacquire c m cause.Broadcast)) choice (alt.Act 0 ∷ []) (may_act next (status.Reacquire c m cause.Broadcast) refl (is refl) (λ elsewhere. absurd (true≢false elsewhere)), tt) offered
+      number_or_has (Offered shared t environment next (status.Reacquire c m cause.Signalled)) choice hand_on_or_act (λ u. alt.Act u) (λ waiter. waiter.id) (alt.Act 0) refl (λ waiter waiters. refl)
+      (may_act next (status.Reacquire c m cause.Signalled) refl (is refl) (λ elsewhere. absurd (true≢false elsewhere))) (environment.waiters c) (λ u among. may_hand_on next c m u (is refl) among) offered
+  unblocked_offered next c m cause.Broadcast true is offered = each_has (Offered shared t environment next (status.Reacquire c m cause.Broadcast)) choice (alt.Act 0 ∷ []) (may_act next (status.Reacquire c m cause.Broadcast) refl (is refl) (λ elsewhere. absurd (true≢false elsewhere)), tt) offered
   unblocked_offered next c m cause.Canceled true is offered = absurd (false≢true offered)
   unblocked_offered next c m why false is offered = absurd (false≢true offered)
 
   -- a thread that is ending
-  ending_offered : (next : NextStatement) (handlers : List (ℕ × ℕ)) → t.handlers ≡ handlers → offers (ending_choices body shared t others handlers) choice ≡ true → Offered shared t others next status.Ending choice
+  ending_offered : (next : NextStatement) (handlers : List (ℕ × ℕ)) → t.handlers ≡ handlers → offers (ending_choices body shared t environment handlers) choice ≡ true → Offered shared t environment next status.Ending choice
   unfolding ending_choices
-  ending_offered next (handler ∷ handlers) is offered = each_has (Offered shared t others next status.Ending) choice (alt.Go ∷ []) (may_go next status.Ending refl, tt) offered
+  ending_offered next (handler ∷ handlers) is offered = each_has (Offered shared t environment next status.Ending) choice (alt.Go ∷ []) (may_go next status.Ending refl, tt) offered
   ending_offered next [] none offered =
-      number_or_has (Offered shared t others next status.Ending) choice dtor_or_go (λ k. alt.Dtor k) (λ k. k) alt.Go refl (λ k keys. refl) (may_go next status.Ending refl) (left_keys shared.keys t.specific) (λ k among. may_destroy next k none among) offered
+      number_or_has (Offered shared t environment next status.Ending) choice dtor_or_go (λ k. alt.Dtor k) (λ k. k) alt.Go refl (λ k keys. refl) (may_go next status.Ending refl) (left_keys shared.keys t.specific) (λ k among. may_destroy next k none among) offered
 
   -- the case of a choice that is offered
-  pub offered_of : (next : NextStatement) (s : Status) → offers (choices_at body shared t others next s) choice ≡ true → Offered shared t others next s choice
+  pub offered_of : (next : NextStatement) (s : Status) → offers (choices_at body shared t environment next s) choice ≡ true → Offered shared t environment next s choice
   unfolding choices_at
   offered_of (StatementIn frame s) status.Running offered = running_offered frame s offered
   offered_of next (status.AtPoint index) offered = suspended_offered next (status.AtPoint index) refl refl offered
@@ -285,16 +285,16 @@ module _ (body : List Stmt) (shared : SharedState) (t : Thread) (others : Others
   offered_of next (status.Waiting c m) offered = suspended_offered next (status.Waiting c m) refl refl offered
   offered_of next (status.Reacquire c m why) offered =
       let delivered : Bool = is_deliverable t.state t.pending in
-      go_or_has (Offered shared t others next (status.Reacquire c m why)) choice (is_free_mutex m shared) (cond delivered (unblocked_acts why (others.waiters c)) [])
+      go_or_has (Offered shared t environment next (status.Reacquire c m why)) choice (is_free_mutex m shared) (cond delivered (unblocked_acts why (environment.waiters c)) [])
       (may_go next (status.Reacquire c m why)) (unblocked_offered next c m why delivered (λ is. is)) offered
   offered_of next status.Ending offered = ending_offered next t.handlers refl offered
   offered_of next (status.Forking at) offered =
-      each_has (Offered shared t others next (status.Forking at)) choice (alt.Go ∷ []) (may_go next (status.Forking at) refl, tt) offered
-  offered_of next status.Exiting offered = each_has (Offered shared t others next status.Exiting) choice (alt.Go ∷ []) (may_go next status.Exiting refl, tt) offered
+      each_has (Offered shared t environment next (status.Forking at)) choice (alt.Go ∷ []) (may_go next (status.Forking at) refl, tt) offered
+  offered_of next status.Exiting offered = each_has (Offered shared t environment next status.Exiting) choice (alt.Go ∷ []) (may_go next status.Exiting refl, tt) offered
   offered_of next _ offered = absurd (false≢true offered)
 
   -- a mutex that the thread may lock is free, unless the call is a stop
-  pub free_to_lock : (frame : Frame) (m : ℕ) → is_forbidden_in_child body shared frame (statement.Lock m) ≡ false → is_asynchronous t.state t.mode && true ≡ false → offers (choices_at body shared t others (StatementIn frame (statement.Lock m)) status.Running) choice ≡ true → is_free_mutex m shared ≡ true
+  pub free_to_lock : (frame : Frame) (m : ℕ) → is_forbidden_in_child body shared frame (statement.Lock m) ≡ false → is_asynchronous t.state t.mode && true ≡ false → offers (choices_at body shared t environment (StatementIn frame (statement.Lock m)) status.Running) choice ≡ true → is_free_mutex m shared ≡ true
   unfolding choices_at running_choices running_rows called_kind
   free_to_lock frame m = by (is_forbidden_in_child body shared frame (statement.Lock m)) (is_asynchronous t.state t.mode) (is_deliverable t.state t.pending) (is_free_mutex m shared)
     where
@@ -308,11 +308,11 @@ module _ (body : List Stmt) (shared : SharedState) (t : Thread) (others : Others
 
   -- a thread that calls a function which shall be a cancellation point, and goes on, acts upon no request, unless the call is a stop
   pub gone_on_at_required : (frame : Frame) (s : Stmt) → is_required (called_kind s) ≡ true → is_allowed_asynchronously s ≡ false → is_forbidden_in_child body shared frame s ≡ false → is_asynchronous t.state t.mode && not (is_allowed_asynchronously s) ≡ false
-      → offers (choices_at body shared t others (StatementIn frame s) status.Running) choice ≡ true → is_acting choice ≡ false → is_deliverable t.state t.pending ≡ false
+      → offers (choices_at body shared t environment (StatementIn frame s) status.Running) choice ≡ true → is_acting choice ≡ false → is_deliverable t.state t.pending ≡ false
   unfolding choices_at running_choices running_rows
   gone_on_at_required frame s shall called allowed deferred offered other =
       let later_rows : List ChoiceRow =
-      (is_blocked s shared, []) ∷ (is_create s, new_or_go others.new_ids) ∷ (is_key_create s, new_or_go (new_keys shared.keys)) ∷ (is_signal s, pick_or_go (waiters_to_signal others s)) ∷ [] in
+      (is_blocked s shared, []) ∷ (is_create s, new_or_go environment.new_ids) ∷ (is_key_create s, new_or_go (new_keys shared.keys)) ∷ (is_signal s, pick_or_go (waiters_to_signal environment s)) ∷ [] in
       by (is_forbidden_in_child body shared frame s) (is_asynchronous t.state t.mode) (is_deliverable t.state t.pending) (is_required (called_kind s)) (is_allowed_asynchronously s)
       ((is_deliverable t.state t.pending && is_optional (called_kind s), alt.Go ∷ alt.Act 0 ∷ []) ∷ later_rows) shall called allowed deferred offered
     where
@@ -326,6 +326,6 @@ module _ (body : List Stmt) (shared : SharedState) (t : Thread) (others : Others
       by false false false _ _ rows shall called allowed deferred offered = refl
 
   -- a thread that has no handler, and ends or begins a pass, has no key left in its pass
-  pub no_key_left : (next : NextStatement) → t.handlers ≡ [] → is_destroying choice ≡ false → offers (choices_at body shared t others next status.Ending) choice ≡ true → left_keys shared.keys t.specific ≡ []
+  pub no_key_left : (next : NextStatement) → t.handlers ≡ [] → is_destroying choice ≡ false → offers (choices_at body shared t environment next status.Ending) choice ≡ true → left_keys shared.keys t.specific ≡ []
   unfolding choices_at ending_choices
-  no_key_left next none other offered = none_left choice (left_keys shared.keys t.specific) other (subst (λ handlers. offers (ending_choices body shared t others handlers) choice ≡ true) none offered)
+  no_key_left next none other offered = none_left choice (left_keys shared.keys t.specific) other (subst (λ handlers. offers (ending_choices body shared t environment handlers) choice ≡ true) none offered)

@@ -3,11 +3,11 @@
 -- say, and one for all others.
 use Rattle.pct_names.proofs.Names.{◌%◌, ◌&&◌, ◌+◌, ◌-◌, ◌<◌, [], acts, after_block, after_end, after_test, Asynchronous, Bool}
 use Rattle.pct_names.proofs.Names.{calls_cancellation_point, Cause, cond_wait_point, creates_thread, Dest, due_keys, EAGAIN, ECHILD}
-use Rattle.pct_names.proofs.Names.{end_value, ENOMEM, false, ForkAt, ForkHandlers, Frame, goes_on, handler_event, HandlerCall}
+use Rattle.pct_names.proofs.Names.{end_value, ENOMEM, Environment, false, ForkAt, ForkHandlers, Frame, goes_on, handler_event, HandlerCall}
 use Rattle.pct_names.proofs.Names.{has_begun_to_end, has_left_wait, is_deliverable, is_ended_status, is_free_mutex, is_in_handler, is_none}
 use Rattle.pct_names.proofs.Names.{is_required, is_some, join_point, Key, key_place, key_with, left_keys, length, List, list_any}
 use Rattle.pct_names.proofs.Names.{MAX_FORK_HANDLERS, MAX_FRAMES, MAX_HANDLERS, may_register, mode_if, mode_number, nat_eq, nat_lt}
-use Rattle.pct_names.proofs.Names.{new_keys, next_handler, NextStatement, no_change, None, open_of, Operand, Option, Others, owns, Parent}
+use Rattle.pct_names.proofs.Names.{new_keys, next_handler, NextStatement, no_change, None, open_of, Operand, Option, owns, Parent}
 use Rattle.pct_names.proofs.Names.{point_kind, Prepare, Required, sem_wait_point, SharedState, slice_index, Some, state_if, state_number}
 use Rattle.pct_names.proofs.Names.{StatementIn, Status, Stmt, stops, suc, testcancel_point, Thread, Transition, true, value_at, value_of}
 use Rattle.pct_names.proofs.Names.{variable_value, waitpid_point, waits_with_another_mutex, while_called, Why, ℕ, ◌∷◌, ◌≡◌, ◌≤◌, ◌⊎◌}
@@ -42,7 +42,7 @@ module _ (body : List Stmt) (globals : List ℕ) (frame : Frame) where
 
 -- ---- the cases
 
-module _ (passes : ℕ) (body : List Stmt) (shared : SharedState) (t : Thread) (others : Others) (offered : Bool) where
+module _ (passes : ℕ) (body : List Stmt) (shared : SharedState) (t : Thread) (environment : Environment) (offered : Bool) where
   -- the value of an operand
   abbrev value : Frame → Operand → ℕ
   value frame v = value_of shared.globals frame v
@@ -73,20 +73,20 @@ module _ (passes : ℕ) (body : List Stmt) (shared : SharedState) (t : Thread) (
     exit_function_left : (frame : Frame) (s : Stmt) (v : ℕ) → Returns body shared.globals frame s v → frame.kind ≡ kind.ExitFn
         → TransitionCase (StatementIn frame s) status.Running (record (acts []) { own = Some (own_action.Leave status.Exiting) })
     -- threads
-    thread_made : (frame : Frame) (result id : Dest) (f : ℕ) (v : Operand) (detached : Bool) (new : ℕ) → (offered ≡ true → list_any (nat_eq new) others.new_ids ≡ true)
+    thread_made : (frame : Frame) (result id : Dest) (f : ℕ) (v : Operand) (detached : Bool) (new : ℕ) → (offered ≡ true → list_any (nat_eq new) environment.new_ids ≡ true)
         → TransitionCase (StatementIn frame (statement.Create result id f v detached)) status.Running
         (record (creates_thread (suc frame.pc) (record { id = new; detached = detached; func = f; arg = value frame v }) (what.Created new detached ∷ [])) { writes = (result, 0) ∷ (id, new) ∷ [] })
     thread_not_made : (frame : Frame) (result id : Dest) (f : ℕ) (v : Operand) (detached : Bool)
         → TransitionCase (StatementIn frame (statement.Create result id f v detached)) status.Running (record (goes_on (suc frame.pc) (what.Answer caller.Create EAGAIN ∷ [])) { writes = (result, EAGAIN) ∷ [] })
-    join_begun : (frame : Frame) (id : Operand) (d : Dest) (target : Thread) → others.named (value frame id) ≡ Some target → nat_eq (value frame id) t.id ≡ false → target.detached ≡ false → others.another_joins (value frame id) ≡ false → (offered ≡ true → is_deliverable t.state t.pending ≡ false)
+    join_begun : (frame : Frame) (id : Operand) (d : Dest) (target : Thread) → environment.named (value frame id) ≡ Some target → nat_eq (value frame id) t.id ≡ false → target.detached ≡ false → environment.another_joins (value frame id) ≡ false → (offered ≡ true → is_deliverable t.state t.pending ≡ false)
         → TransitionCase (StatementIn frame (statement.Join id d)) status.Running (record (acts (what.Called join_point ∷ [])) { own = Some (own_action.SetStatus (status.Joining (value frame id))) })
-    join_ended : (frame : Frame) (operand : Operand) (d : Dest) (id v : ℕ) (target : Thread) → others.named id ≡ Some target → target.status ≡ status.Ended v
+    join_ended : (frame : Frame) (operand : Operand) (d : Dest) (id v : ℕ) (target : Thread) → environment.named id ≡ Some target → target.status ≡ status.Ended v
         → TransitionCase (StatementIn frame (statement.Join operand d)) (status.Joining id) (record (goes_on (suc frame.pc) (what.Joined id v ∷ [])) { writes = (d, v) ∷ []; named = Some (named_action.EndJoin id) })
-    thread_detached : (frame : Frame) (id : Operand) (target : Thread) → others.named (value frame id) ≡ Some target → target.detached ≡ false → others.another_joins (value frame id) ≡ false
+    thread_detached : (frame : Frame) (id : Operand) (target : Thread) → environment.named (value frame id) ≡ Some target → target.detached ≡ false → environment.another_joins (value frame id) ≡ false
         → TransitionCase (StatementIn frame (statement.Detach id)) status.Running (record (goes_on (suc frame.pc) (what.Detached (value frame id) ∷ [])) { named = Some (named_action.Detach (value frame id)) })
     self_got : (frame : Frame) (d : Dest) → TransitionCase (StatementIn frame (statement.SelfId d)) status.Running (record (goes_on (suc frame.pc) []) { writes = (d, t.id) ∷ [] })
     -- cancellation
-    request_sent : (frame : Frame) (id : Operand) (target : Thread) → others.named (value frame id) ≡ Some target
+    request_sent : (frame : Frame) (id : Operand) (target : Thread) → environment.named (value frame id) ≡ Some target
         → TransitionCase (StatementIn frame (statement.CancelThread id)) status.Running (record (goes_on (suc frame.pc) (what.Request (value frame id) ∷ [])) { named = Some (named_action.Request (value frame id)) })
     state_set : (frame : Frame) (enable : Bool) (old : Dest) → enable && is_in_handler t.frames ≡ false
         → TransitionCase (StatementIn frame (statement.SetState enable old)) status.Running (record (goes_on (suc frame.pc) (what.StateSet enable ∷ [])) { writes = (old, state_number t.state) ∷ []; own = Some (own_action.SetState (state_if enable)) })
@@ -114,7 +114,7 @@ module _ (passes : ℕ) (body : List Stmt) (shared : SharedState) (t : Thread) (
     mutex_unlocked : (frame : Frame) (m : ℕ) → owns t.id m shared ≡ true
         → TransitionCase (StatementIn frame (statement.Unlock m)) status.Running (record (goes_on (suc frame.pc) (what.Released m ∷ [])) { shared = Some (shared_action.OwnMutex m 0) })
     -- condition waits: the call; the return, by a signal or a broadcast; and the two steps by which a request ends one
-    wait_begun : (frame : Frame) (c m : ℕ) → owns t.id m shared ≡ true → waits_with_another_mutex c m others ≡ false → (offered ≡ true → is_deliverable t.state t.pending ≡ false)
+    wait_begun : (frame : Frame) (c m : ℕ) → owns t.id m shared ≡ true → waits_with_another_mutex c m environment ≡ false → (offered ≡ true → is_deliverable t.state t.pending ≡ false)
         → TransitionCase (StatementIn frame (statement.CondWait c m)) status.Running (record (acts (what.Called cond_wait_point ∷ what.Released m ∷ [])) { own = Some (own_action.SetStatus (status.Waiting c m)); shared = Some (shared_action.OwnMutex m 0) })
     wait_ended : (frame : Frame) (cond mutex c m : ℕ) (why : Cause) → has_left_wait (status.Reacquire c m why) ≡ false → (offered ≡ true → is_free_mutex m shared ≡ true)
         → TransitionCase (StatementIn frame (statement.CondWait cond mutex)) (status.Reacquire c m why) (record (goes_on (suc frame.pc) (what.Acquired m ∷ what.Done cond_wait_point ∷ [])) { shared = Some (shared_action.OwnMutex m t.id) })
@@ -122,16 +122,16 @@ module _ (passes : ℕ) (body : List Stmt) (shared : SharedState) (t : Thread) (
         → TransitionCase next (status.Waiting c m) (record (acts (what.WaitCanceled c ∷ [])) { own = Some (own_action.SetStatus (status.Reacquire c m cause.Canceled)) })
     canceled_after_wait : (next : NextStatement) (c m : ℕ) (why : Cause) → has_left_wait (status.Reacquire c m why) ≡ false → (offered ≡ true → is_deliverable t.state t.pending ≡ true)
         → TransitionCase next (status.Reacquire c m why) (record (acts (what.WaitCanceled c ∷ [])) { own = Some (own_action.SetStatus (status.Reacquire c m cause.Canceled)) })
-    signal_handed_on : (next : NextStatement) (c m u : ℕ) → (offered ≡ true → is_deliverable t.state t.pending ≡ true) → (offered ≡ true → list_any (λ waiter. nat_eq u waiter.id) (others.waiters c) ≡ true)
+    signal_handed_on : (next : NextStatement) (c m u : ℕ) → (offered ≡ true → is_deliverable t.state t.pending ≡ true) → (offered ≡ true → list_any (λ waiter. nat_eq u waiter.id) (environment.waiters c) ≡ true)
         → TransitionCase next (status.Reacquire c m cause.Signalled) (record (acts (what.WaitCanceled c ∷ what.HandedOn c u ∷ [])) { own = Some (own_action.SetStatus (status.Reacquire c m cause.Canceled)); named = Some (named_action.Wake u) })
     ended_in_wait : (next : NextStatement) (c m : ℕ) → (offered ≡ true → is_free_mutex m shared ≡ true)
         → TransitionCase next (status.Reacquire c m cause.Canceled) (record (acts (what.Acquired m ∷ what.EndingInWait c m ∷ [])) { own = Some (own_action.BeginEnd reason.Canceled); shared = Some (shared_action.OwnMutex m t.id) })
     -- signals and broadcasts
-    signal_sent : (frame : Frame) (c u : ℕ) → (offered ≡ true → list_any (λ waiter. nat_eq u waiter.id) (others.waiters c) ≡ true)
+    signal_sent : (frame : Frame) (c u : ℕ) → (offered ≡ true → list_any (λ waiter. nat_eq u waiter.id) (environment.waiters c) ≡ true)
         → TransitionCase (StatementIn frame (statement.Signal c)) status.Running (record (goes_on (suc frame.pc) (what.Signalled c u ∷ [])) { named = Some (named_action.Wake u) })
     signal_lost : (frame : Frame) (c : ℕ) → TransitionCase (StatementIn frame (statement.Signal c)) status.Running (goes_on (suc frame.pc) (what.Signalled c 0 ∷ []))
     broadcast_sent : (frame : Frame) (c : ℕ)
-        → TransitionCase (StatementIn frame (statement.Broadcast c)) status.Running (record (goes_on (suc frame.pc) (what.BroadcastTo c (length (others.waiters c)) ∷ [])) { named = Some (named_action.WakeAll c) })
+        → TransitionCase (StatementIn frame (statement.Broadcast c)) status.Running (record (goes_on (suc frame.pc) (what.BroadcastTo c (length (environment.waiters c)) ∷ [])) { named = Some (named_action.WakeAll c) })
     -- semaphores
     sem_wait_begun : (frame : Frame) (sem : ℕ) → (offered ≡ true → is_deliverable t.state t.pending ≡ false)
         → TransitionCase (StatementIn frame (statement.SemWait sem)) status.Running (record (acts (what.Called sem_wait_point ∷ [])) { own = Some (own_action.SetStatus (status.InSem sem)) })
@@ -150,7 +150,7 @@ module _ (passes : ℕ) (body : List Stmt) (shared : SharedState) (t : Thread) (
         → TransitionCase next (status.Forking at) (record (acts (handler_event at.phase call.func ∷ [])) { own = Some (own_action.CallForkHandler (while_called at call.index) call.func) })
     fork_handler_left : (frame : Frame) (s : Stmt) (v : ℕ) (at : ForkAt) → Returns body shared.globals frame s v → frame.kind ≡ kind.ForkFn → t.kept ≡ Some at
         → TransitionCase (StatementIn frame s) status.Running (record (acts []) { own = Some (own_action.Leave (status.Forking at)) })
-    process_forked : (next : NextStatement) (at : ForkAt) (new : ℕ) → at.phase ≡ Prepare → others.family.new_pid ≡ Some new
+    process_forked : (next : NextStatement) (at : ForkAt) (new : ℕ) → at.phase ≡ Prepare → environment.family.new_pid ≡ Some new
         → TransitionCase next (status.Forking at) (record (acts (what.Forked new ∷ [])) { own = Some (own_action.SetStatus (status.Forking (record { phase = Parent; next = 0; length = at.length; answer = new }))); process = Some (process_action.Make new) })
     process_not_forked : (next : NextStatement) (at : ForkAt) → at.phase ≡ Prepare
         → TransitionCase next (status.Forking at) (record (acts (what.Answer caller.Fork EAGAIN ∷ [])) { own = Some (own_action.SetStatus (status.Forking (record { phase = Parent; next = 0; length = at.length; answer = 0 }))) })
@@ -160,7 +160,7 @@ module _ (passes : ℕ) (body : List Stmt) (shared : SharedState) (t : Thread) (
         → TransitionCase (StatementIn frame (statement.Fork result child)) (status.Forking at) (record (goes_on (suc frame.pc) []) { writes = (result, 0) ∷ (child, value) ∷ [] })
     waitpid_begun : (frame : Frame) (result d : Dest) (pid : Operand) → (offered ≡ true → is_deliverable t.state t.pending ≡ false)
         → TransitionCase (StatementIn frame (statement.WaitPid result pid d)) status.Running (record (acts (what.Called waitpid_point ∷ [])) { own = Some (own_action.SetStatus (status.InWaitPid (value frame pid))) })
-    child_reaped : (frame : Frame) (result d : Dest) (operand : Operand) (pid n : ℕ) (child : Child) → others.family.child pid ≡ Some child → child.ended ≡ Some n
+    child_reaped : (frame : Frame) (result d : Dest) (operand : Operand) (pid n : ℕ) (child : Child) → environment.family.child pid ≡ Some child → child.ended ≡ Some n
         → TransitionCase (StatementIn frame (statement.WaitPid result operand d)) (status.InWaitPid pid) (record (goes_on (suc frame.pc) (what.Reaped pid n ∷ [])) { writes = (result, 0) ∷ (d, n) ∷ []; process = Some (process_action.Reap pid) })
     no_child_found : (frame : Frame) (result d : Dest) (operand : Operand) → (offered ≡ true → is_deliverable t.state t.pending ≡ false)
         → TransitionCase (StatementIn frame (statement.WaitPid result operand d)) status.Running (record (goes_on (suc frame.pc) (what.Answer caller.WaitPid ECHILD ∷ [])) { writes = (result, ECHILD) ∷ [] })
@@ -197,9 +197,9 @@ module _ (passes : ℕ) (body : List Stmt) (shared : SharedState) (t : Thread) (
         → TransitionCase next status.Ending (record (acts (what.EndedWith (end_value t.reason) ∷ [])) { own = Some (own_action.EndThread (end_value t.reason)) })
     thread_ended_with_keys : (next : NextStatement) (left : ℕ) → t.handlers ≡ [] → 0 < left → passes ≤ t.pass → left ≡ due_keys shared.keys t → (offered ≡ true → left_keys shared.keys t.specific ≡ [])
         → TransitionCase next status.Ending (record (acts (what.Leftover left ∷ what.EndedWith (end_value t.reason) ∷ [])) { own = Some (own_action.EndThread (end_value t.reason)) })
-    last_ended : (next : NextStatement) → t.handlers ≡ [] → others.is_last ≡ true → due_keys shared.keys t ≡ 0 → (offered ≡ true → left_keys shared.keys t.specific ≡ [])
+    last_ended : (next : NextStatement) → t.handlers ≡ [] → environment.is_last ≡ true → due_keys shared.keys t ≡ 0 → (offered ≡ true → left_keys shared.keys t.specific ≡ [])
         → TransitionCase next status.Ending (record (acts (what.EndedWith (end_value t.reason) ∷ what.ExitBegun 0 ∷ [])) { own = Some own_action.EndLast; shared = Some (shared_action.BeginExit 0) })
-    last_ended_with_keys : (next : NextStatement) (left : ℕ) → t.handlers ≡ [] → others.is_last ≡ true → 0 < left → passes ≤ t.pass → left ≡ due_keys shared.keys t → (offered ≡ true → left_keys shared.keys t.specific ≡ [])
+    last_ended_with_keys : (next : NextStatement) (left : ℕ) → t.handlers ≡ [] → environment.is_last ≡ true → 0 < left → passes ≤ t.pass → left ≡ due_keys shared.keys t → (offered ≡ true → left_keys shared.keys t.specific ≡ [])
         → TransitionCase next status.Ending (record (acts (what.Leftover left ∷ what.EndedWith (end_value t.reason) ∷ what.ExitBegun 0 ∷ [])) { own = Some own_action.EndLast; shared = Some (shared_action.BeginExit 0) })
     -- the exit of a process, and its end
     exit_registered : (frame : Frame) (result : Dest) (f : ℕ) → may_register shared ≡ true

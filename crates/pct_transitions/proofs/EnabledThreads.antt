@@ -1,8 +1,8 @@
 -- Whether a thread has a choice, by its status, or by the statement at which it runs.
-use Rattle.pct_names.proofs.Names.{◌&&◌, ◌++◌, [], act_if, Alt, ap, Bool, called_kind, Cause, choices_at, false, false≢true, first_row}
-use Rattle.pct_names.proofs.Names.{Frame, go_if, if◌then◌else◌, is_asynchronous, is_blocked, is_deliverable, is_enabled, is_fork_kind}
-use Rattle.pct_names.proofs.Names.{is_free_mutex, List, NextStatement, not, Others, refl, running_choices, running_rows, SharedState, Stmt}
-use Rattle.pct_names.proofs.Names.{sym, Thread, true, unblocked_acts, ◌||◌, ℕ, ◌∙◌, ◌∷◌, ◌≡◌}
+use Rattle.pct_names.proofs.Names.{◌&&◌, ◌++◌, [], act_if, Alt, ap, Bool, called_kind, Cause, choices_at, Environment, false, false≢true}
+use Rattle.pct_names.proofs.Names.{first_row, Frame, go_if, if◌then◌else◌, is_asynchronous, is_blocked, is_deliverable, is_enabled}
+use Rattle.pct_names.proofs.Names.{is_fork_kind, is_free_mutex, List, NextStatement, not, refl, running_choices, running_rows, SharedState}
+use Rattle.pct_names.proofs.Names.{Stmt, sym, Thread, true, unblocked_acts, ◌||◌, ℕ, ◌∙◌, ◌∷◌, ◌≡◌}
 use Rattle.pct_model.specs.declared.schedule.Alt.TheVariants as alt
 use Rattle.pct_model.specs.declared.statement.Stmt.TheVariants as statement
 use Rattle.pct_model.specs.declared.state.Status.TheVariants as status
@@ -55,10 +55,10 @@ forbidden_lock true true = refl
 forbidden_lock true false = refl
 forbidden_lock false fork = refl
 
-module _ (body : List Stmt) (shared : SharedState) (t : Thread) (others : Others) (frame : Frame) where
+module _ (body : List Stmt) (shared : SharedState) (t : Thread) (environment : Environment) (frame : Frame) where
   -- at pthread_mutex_lock it has one if the mutex has no owner, if it may act upon a request at any time, or if the call is a stop of
   -- a child process
-  pub lock_enabled : (m : ℕ) → is_enabled (running_choices body shared t others frame (statement.Lock m)) ≡ (is_free_mutex m shared || (is_asynchronous t.state t.mode || (shared.restricted && not (is_fork_kind frame.kind))))
+  pub lock_enabled : (m : ℕ) → is_enabled (running_choices body shared t environment frame (statement.Lock m)) ≡ (is_free_mutex m shared || (is_asynchronous t.state t.mode || (shared.restricted && not (is_fork_kind frame.kind))))
   unfolding running_choices running_rows called_kind
   lock_enabled m =
       at_lock (shared.restricted && (not (is_fork_kind frame.kind) && true)) (is_asynchronous t.state t.mode) (is_deliverable t.state t.pending) (is_free_mutex m shared) (act_if t.pending)
@@ -66,11 +66,11 @@ module _ (body : List Stmt) (shared : SharedState) (t : Thread) (others : Others
 
 -- ---- by status
 
-module _ (body : List Stmt) (shared : SharedState) (t : Thread) (others : Others) where
+module _ (body : List Stmt) (shared : SharedState) (t : Thread) (environment : Environment) where
   -- a thread that was unblocked on a condition variable
   pub reacquire_enabled : (next : NextStatement) (c m : ℕ) (why : Cause)
-      → (is_free_mutex m shared || (is_deliverable t.state t.pending && is_enabled (unblocked_acts why (others.waiters c)))) ≡ is_enabled (choices_at body shared t others next (status.Reacquire c m why))
+      → (is_free_mutex m shared || (is_deliverable t.state t.pending && is_enabled (unblocked_acts why (environment.waiters c)))) ≡ is_enabled (choices_at body shared t environment next (status.Reacquire c m why))
   unfolding choices_at
   reacquire_enabled next c m why =
-      ap (λ (b : Bool). is_free_mutex m shared || b) (sym (if_enabled (is_deliverable t.state t.pending) (unblocked_acts why (others.waiters c))))
-      ∙ sym (go_enabled (is_free_mutex m shared) (if is_deliverable t.state t.pending then unblocked_acts why (others.waiters c) else []))
+      ap (λ (b : Bool). is_free_mutex m shared || b) (sym (if_enabled (is_deliverable t.state t.pending) (unblocked_acts why (environment.waiters c))))
+      ∙ sym (go_enabled (is_free_mutex m shared) (if is_deliverable t.state t.pending then unblocked_acts why (environment.waiters c) else []))

@@ -1,12 +1,13 @@
 -- Each transition fits the thread that makes it.
 use Rattle.pct_names.proofs.Names.{◌<◌, [], acts_on_request, after_block, after_test, Alt, arith, body_at, body_of, Bool, close_of, cond}
-use Rattle.pct_names.proofs.Names.{false, false≢true, Frame, holds, is_forking, is_while, length, List, MAX_FRAMES, MAX_PASSES, nat_eq}
-use Rattle.pct_names.proofs.Names.{next_of, NextStatement, None, NoStatement, Option, Others, refl, Script, SharedState, Some, StatementIn}
+use Rattle.pct_names.proofs.Names.{Environment, false, false≢true, Frame, holds, is_forking, is_while, length, List, MAX_FRAMES, MAX_PASSES}
+use Rattle.pct_names.proofs.Names.{nat_eq, next_of, NextStatement, None, NoStatement, Option, refl, Script, SharedState, Some, StatementIn}
 use Rattle.pct_names.proofs.Names.{Status, Stmt, subst, suc, Thread, Transition, transition_at, true, unwrap_or, ℕ, ◌≡◌, ◌≤◌}
 use Rattle.pct_model.specs.declared.schedule.Alt.TheVariants as alt
 use Rattle.pct_transition_cases.proofs.CaseOfTransition.{going_case, case_of}
 use Rattle.pct_transition_cases.proofs.PlacedStatements.{IsPlaced, nowhere, on_top, is_placed, body_placed}
-use Rattle.pct_transition_cases.proofs.TransitionCases.{Leads, past_nop, past_if, past_while, past_else, past_end, TransitionCase, jumped, function_called, fork_handler_called, handler_pushed, handler_called, pass_begun}
+use Rattle.pct_transition_cases.proofs.TransitionCases.{Leads, past_nop, past_if, past_while, past_else, past_end, TransitionCase, jumped}
+use Rattle.pct_transition_cases.proofs.TransitionCases.{function_called, fork_handler_called, handler_pushed, handler_called, pass_begun}
 use Rattle.pct_jumps.proofs.JumpTableFacts.{closes_inside, opens_earlier}
 use Rattle.pct_engine_laws.specs.Fitting.{TransitionFits}
 use Rattle.pct_transitions.proofs.Bodies.{few_statements, pc_within}
@@ -41,7 +42,7 @@ leads_within script globals frame low (past_end opened is) =
 
 -- ---- the table
 
-module _ (script : Script) (passes : ℕ) (few : passes ≤ MAX_PASSES) (shared : SharedState) (t : Thread) (others : Others) where
+module _ (script : Script) (passes : ℕ) (few : passes ≤ MAX_PASSES) (shared : SharedState) (t : Thread) (environment : Environment) where
   -- the transition fits the thread
   abbrev FitsThread : Transition → Type 0
   FitsThread o = TransitionFits (length t.frames) (length t.handlers) t.pass o
@@ -60,7 +61,7 @@ module _ (script : Script) (passes : ℕ) (few : passes ≤ MAX_PASSES) (shared 
   HasForkRoom s = is_forking s ≡ true → length t.frames ≤ MAX_FRAMES
 
   case_fits : {frames : List Frame} {body : List Stmt} {next : NextStatement} {s : Status} {o : Transition} → IsPlaced script frames body next → IsLow next → HasForkRoom s
-      → TransitionCase passes body shared t others false next s o → FitsThread o
+      → TransitionCase passes body shared t environment false next s o → FitsThread o
   case_fits placed low forks (jumped frame s pc leads) = record { next = leads_within script shared.globals frame low (subst (λ (b : List Stmt). Leads b shared.globals frame s pc) (body_placed placed) leads); own = tt }
   case_fits placed low forks (function_called frame f v room) = record { next = low; own = omega (arith, room) }
   case_fits placed low forks (fork_handler_called next at call is) = record { next = tt; own = forks refl }
@@ -71,11 +72,11 @@ module _ (script : Script) (passes : ℕ) (few : passes ≤ MAX_PASSES) (shared 
 
   -- the transition of a thread that acts upon a request fits it
   pub acting_fits : HasForkRoom t.status → (n : ℕ) → FitsThread (acts_on_request n t.status)
-  acting_fits forks n = case_fits (nowhere [] []) tt forks (case_of passes [] shared t others false (alt.Act n) NoStatement t.status (λ known. absurd (false≢true known)))
+  acting_fits forks n = case_fits (nowhere [] []) tt forks (case_of passes [] shared t environment false (alt.Act n) NoStatement t.status (λ known. absurd (false≢true known)))
 
   -- each transition of a thread that goes on fits it
-  pub transition_fits : HasForkRoom t.status → (choice : Alt) → FitsThread (transition_at passes (body_at script t.frames) shared t others choice (next_of script t.frames) t.status)
+  pub transition_fits : HasForkRoom t.status → (choice : Alt) → FitsThread (transition_at passes (body_at script t.frames) shared t environment choice (next_of script t.frames) t.status)
   transition_fits forks choice =
       let placed : IsPlaced script t.frames (body_at script t.frames) (next_of script t.frames) = is_placed script t.frames in
       case_fits placed (is_low placed) forks
-      (going_case passes (body_at script t.frames) shared t others false choice (next_of script t.frames) t.status (λ known. absurd (false≢true known)))
+      (going_case passes (body_at script t.frames) shared t environment false choice (next_of script t.frames) t.status (λ known. absurd (false≢true known)))

@@ -5,7 +5,7 @@ pub mod ListedChoices
 pub mod KeyChoices
 pub mod WaiterChoices
 pub mod CancelRows
-pub mod OthersRead
+pub mod EnvironmentRead
 pub mod WaitersRead
 pub mod ProcessReads
 mod OfferedLists

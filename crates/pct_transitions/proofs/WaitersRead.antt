@@ -1,8 +1,8 @@
 -- What is read of the table of threads is which threads wait on a condition variable.
-use Rattle.pct_names.proofs.Names.{◌&&◌, ◌+◌, ◌++◌, [], All, ap, arith, Bool, cases_lt, cond, drop, drop_all, drop_more, false, false≢true}
-use Rattle.pct_names.proofs.Names.{Family, filter_passes, get_or_past, inl, inr, is_some, is_waiting_on, KeyValues, length, List, list_any}
-use Rattle.pct_names.proofs.Names.{map, map-append, nat_eq, None, none-some, not, Option, option_map, option_map_or, Others, range_with_len}
-use Rattle.pct_names.proofs.Names.{refl, same_Some, Some, Status, suc, sym, Thread, true, Waiter, waiter_by, waiters_among}
+use Rattle.pct_names.proofs.Names.{◌&&◌, ◌+◌, ◌++◌, [], All, ap, arith, Bool, cases_lt, cond, drop, drop_all, drop_more, Environment, false}
+use Rattle.pct_names.proofs.Names.{false≢true, Family, filter_passes, get_or_past, inl, inr, is_some, is_waiting_on, KeyValues, length}
+use Rattle.pct_names.proofs.Names.{List, list_any, map, map-append, nat_eq, None, none-some, not, Option, option_map, option_map_or}
+use Rattle.pct_names.proofs.Names.{range_with_len, refl, same_Some, Some, Status, suc, sym, Thread, true, Waiter, waiter_by, waiters_among}
 use Rattle.pct_names.proofs.Names.{waits_with_another_mutex, zero, ℕ, ◌∙◌, ◌∷◌, ◌≡◌, ◌≤◌}
 use Rattle.std.proofs.Common.{append-nil}
 use Rattle.std.specs.List.{flat_map}
@@ -15,12 +15,12 @@ use Rattle.pct_threads.specs.Slots.{Held, Slot, unused}
 use Rattle.pct_threads.specs.Tables.{slot_at, held_at, is_occupied_at}
 use Rattle.pct_keys.specs.Tables.{Table}
 use Rattle.pct_engine_laws.specs.Seen.{threads_on}
-use Rattle.pct_engine_laws.specs.SeenSteps.{others_in}
+use Rattle.pct_engine_laws.specs.SeenSteps.{environment_in}
 use Rattle.pct_engine_laws.proofs.ListFacts.{any_agree, any-flat_map, map-filter}
 use Rattle.pct_process.specs.ThreadViews.{threads_of, with_specific}
 use Rattle.pct_process.specs.ProcessViews.{slots_of}
 use Rattle.pct_transitions.specs.OtherThreads.{any_on, is_waiting_with_another, id_at, ids_on}
-use Rattle.pct_transitions.proofs.OthersRead.{any_slot}
+use Rattle.pct_transitions.proofs.EnvironmentRead.{any_slot}
 
 -- ---- the thread on a slot
 
@@ -95,22 +95,22 @@ module _ (c : ℕ) where
 
 -- ---- what a thread sees
 
-module _ (keys : Table) (threads : List Slot) (fit : length keys.rows ≡ length threads) (tid : ℕ) (family : Family) (others : Others) (sees : others ≡ others_in (length (slots_of keys.rows threads)) family (slots_of keys.rows threads) tid) (c : ℕ) where
+module _ (keys : Table) (threads : List Slot) (fit : length keys.rows ≡ length threads) (tid : ℕ) (family : Family) (environment : Environment) (sees : environment ≡ environment_in (length (slots_of keys.rows threads)) family (slots_of keys.rows threads) tid) (c : ℕ) where
   -- a thread waits with another mutex
-  pub another_mutex_read : (m : ℕ) → list_any (λ s. any_on (λ t. is_waiting_with_another c m t.status) s.here) threads ≡ waits_with_another_mutex c m others
-  unfolding others_in
+  pub another_mutex_read : (m : ℕ) → list_any (λ s. any_on (λ t. is_waiting_with_another c m t.status) s.here) threads ≡ waits_with_another_mutex c m environment
+  unfolding environment_in
   another_mutex_read m =
       let seen : List Thread = threads_on (slots_of keys.rows threads) in
       any_slot (λ t. is_waiting_with_another c m t.status) (λ own t. refl) keys.rows threads fit
       ∙ any_agree (λ (t : Thread). is_waiting_with_another c m t.status) (λ t. list_any (λ waiter. not (nat_eq waiter.mutex m)) (waiter_by c t.id t.status)) (λ t. another_by c m t.id t.status) seen
       ∙ sym (any-flat_map (λ (waiter : Waiter). not (nat_eq waiter.mutex m)) (λ (t : Thread). waiter_by c t.id t.status) seen)
-      ∙ ap (λ (o : Others). waits_with_another_mutex c m o) (sym sees)
+      ∙ ap (λ (o : Environment). waits_with_another_mutex c m o) (sym sees)
 
   -- the ids of the threads that wait
-  pub waiters_read : length threads ≤ 64 → ids_on threads (slots_where (λ s. any_on (λ t. is_waiting_on c t.status) (held_at threads s))) ≡ map (λ waiter. waiter.id) (others.waiters c)
-  unfolding slots_where others_in
+  pub waiters_read : length threads ≤ 64 → ids_on threads (slots_where (λ s. any_on (λ t. is_waiting_on c t.status) (held_at threads s))) ≡ map (λ waiter. waiter.id) (environment.waiters c)
+  unfolding slots_where environment_in
   waiters_read few =
       map-filter (id_at threads) (λ (s : ℕ). any_on (λ t. is_waiting_on c t.status) (held_at threads s)) (range_with_len 0 64)
       ∙ ids_from c threads 0 64 few
       ∙ ids_of c keys.rows threads fit
-      ∙ ap (λ (o : Others). map (λ (waiter : Waiter). waiter.id) (o.waiters c)) (sym sees)
+      ∙ ap (λ (o : Environment). map (λ (waiter : Waiter). waiter.id) (o.waiters c)) (sym sees)

@@ -8,7 +8,7 @@ use Rattle.pct_model.specs.declared.statement.Stmt.{Stmt}
 use Rattle.pct_model.specs.CancelCalls.{called_kind}
 use Rattle.pct_model.specs.Keys.{new_keys, left_keys}
 use Rattle.pct_model.specs.MutexCalls.{is_blocked}
-use Rattle.pct_model.specs.OtherThreads.{Others}
+use Rattle.pct_model.specs.Environment.{Environment}
 use Rattle.pct_model.specs.World.{SharedState}
 use Rattle.pct_model.specs.ChoiceTable.{first_row, is_create, is_key_create, is_signal, waiters_to_signal, new_or_go, pick_or_go}
 use Rattle.pct_threads.specs.Slots.{Slot}
@@ -47,13 +47,13 @@ HasRowFor keys (choices.Dtor slot) = slot < length keys.rows
 HasRowFor keys _ = Unit {0}
 
 -- the choices of a running thread at a statement, where it acts upon no request
-abbrev pub statement_choices : SharedState → Others → Stmt → List Alt
-statement_choices shared others s =
+abbrev pub statement_choices : SharedState → Environment → Stmt → List Alt
+statement_choices shared environment s =
     first_row (
     (is_blocked s shared, [])
-    ∷ (is_create s, new_or_go others.new_ids)
+    ∷ (is_create s, new_or_go environment.new_ids)
     ∷ (is_key_create s, new_or_go (new_keys shared.keys))
-    ∷ (is_signal s, pick_or_go (waiters_to_signal others s))
+    ∷ (is_signal s, pick_or_go (waiters_to_signal environment s))
     ∷ []
     ) (alt.Go ∷ [])
 
@@ -65,5 +65,5 @@ choices_at_point (Some kinds.Optional) others = alt.Go ∷ alt.Act 0 ∷ []
 choices_at_point None others = others
 
 -- the choices of a running thread at a statement, where it acts upon a pending request at cancellation points
-abbrev pub requested_choices : SharedState → Others → Stmt → List Alt
-requested_choices shared others s = choices_at_point (called_kind s) (statement_choices shared others s)
+abbrev pub requested_choices : SharedState → Environment → Stmt → List Alt
+requested_choices shared environment s = choices_at_point (called_kind s) (statement_choices shared environment s)

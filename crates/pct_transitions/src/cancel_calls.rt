@@ -5,7 +5,7 @@ ghost use Rattle.std.specs.Prelude.{◌≡◌, [], ◌∷◌};
 ghost use Rattle.pct_model.specs.declared.event.What.TheVariants.{Done};
 ghost use Rattle.pct_model.specs.NextStatement.{StatementIn};
 ghost use Rattle.pct_model.specs.Transitions.{goes_on};
-ghost use Rattle.pct_model.specs.CancelCalls.{requests, state_number, mode_number, state_if, mode_if, sets_state, sets_mode, tests_cancel, point_kind, called_kind, calls_point, is_outside, may_return, passes_point, acts_on_request};
+ghost use Rattle.pct_model.specs.CancelCalls.{requests, state_number, mode_number, state_if, mode_if, sets_state, sets_mode, tests_cancel, point_kind, called_kind, calls_point, is_outside, may_pass_point, passes_point, acts_on_request};
 ghost use Rattle.pct_transitions.specs.Contexts.{IsWhole};
 ghost use Rattle.pct_transitions.specs.Positions.{next_at, IsAt};
 
@@ -157,9 +157,9 @@ fn point_kind(index: u32) -> Option<PointKind>
 }
 
 /// Whether a thread that is suspended at the point with this index may go on: what it waits for may occur at any time.
-#[tactic(auto, unfolding(pct_model::specs::CancelCalls::may_return))]
-pub fn may_return(index: u32) -> bool
-    ensures { result ≡ may_return index }
+#[tactic(auto, unfolding(pct_model::specs::CancelCalls::may_pass_point))]
+pub fn may_pass_point(index: u32) -> bool
+    ensures { result ≡ may_pass_point index }
 {
     match point_at(index) {
         None => false,

@@ -7,7 +7,7 @@ ghost use Rattle.pct_model.specs.declared.state.Status.TheVariants as status;
 ghost use Rattle.pct_model.specs.declared.statement.Stmt.{Stmt as Statement};
 ghost use Rattle.pct_model.specs.World.{Thread, SharedState, body_of};
 ghost use Rattle.pct_model.specs.NextStatement.{next_of, body_at};
-ghost use Rattle.pct_model.specs.OtherThreads.{Waiter, Others};
+ghost use Rattle.pct_model.specs.Environment.{Waiter, Environment};
 ghost use Rattle.pct_model.specs.Keys.{new_keys, left_keys};
 ghost use Rattle.pct_model.specs.ChoiceTable.{choices_at, running_choices, ending_choices, new_or_go, dtor_or_go, pick_or_go, hand_on_or_act, go_if, act_if, offers};
 ghost use Rattle.pct_keys.specs.Tables.{Table, row_at};
@@ -20,7 +20,7 @@ ghost use Rattle.pct_transitions.specs.OtherThreads.{ids_on};
 ghost use Rattle.pct_transitions.specs.declared.choice_table.Choices.TheVariants as choices;
 ghost use Rattle.pct_transitions.specs.Positions.{next_at};
 
-use crate::cancel_calls::{called_kind, may_return};
+use crate::cancel_calls::{called_kind, may_pass_point};
 use crate::context::Context;
 use crate::current::At;
 use crate::mutex_calls::is_free_mutex;
@@ -274,15 +274,15 @@ fn nth_id(threads: &Threads, held: &SlotSet, n: usize) -> Option<u32>
 #[inline(always)]
 pub(crate) fn choices_at(context: &Context) -> Choices
     requires { IsWhole context.now }
-    ensures value { (shared : SharedState) (t : Thread) (others : Others) → IsContext shared t others context.now
+    ensures value { (shared : SharedState) (t : Thread) (environment : Environment) → IsContext shared t environment context.now
         → let script = context.now.program.now.script in
-        listed context.now.threads.now context.now.position.keys.now result ≡ choices_at (body_at script t.frames) shared t others (next_of script t.frames) t.status }
+        listed context.now.threads.now context.now.position.keys.now result ≡ choices_at (body_at script t.frames) shared t environment (next_of script t.frames) t.status }
     ensures within { AreWithin context.now.threads.now result }
 {
     let cancel = &context.position.thread.cancel;
     match context.position.thread.status {
         Status::Running => at_next(context),
-        Status::AtPoint(index) => go_or_act(may_return(index), cancel.deliverable()),
+        Status::AtPoint(index) => go_or_act(may_pass_point(index), cancel.deliverable()),
         Status::Joining(id) => go_or_act(
             context.exit_value_with(id).is_some(),
             cancel.deliverable(),
@@ -303,9 +303,9 @@ pub(crate) fn choices_at(context: &Context) -> Choices
 #[inline(always)]
 fn at_next(context: &Context) -> Choices
     requires { IsWhole context.now }
-    ensures value { (shared : SharedState) (t : Thread) (others : Others) → IsContext shared t others context.now
+    ensures value { (shared : SharedState) (t : Thread) (environment : Environment) → IsContext shared t environment context.now
         → let script = context.now.program.now.script in
-        listed context.now.threads.now context.now.position.keys.now result ≡ choices_at (body_at script t.frames) shared t others (next_of script t.frames) status.Running }
+        listed context.now.threads.now context.now.position.keys.now result ≡ choices_at (body_at script t.frames) shared t environment (next_of script t.frames) status.Running }
     ensures within { AreWithin context.now.threads.now result }
 {
     match &context.position.next {
@@ -320,8 +320,8 @@ fn at_next(context: &Context) -> Choices
 #[inline(always)]
 fn unblocked_choices(context: &Context, cond: u32, mutex: u32, cause: Cause) -> Choices
     requires { IsWhole context.now }
-    ensures value { (body : List Statement) (shared : SharedState) (t : Thread) (others : Others) → IsContext shared t others context.now
-        → listed context.now.threads.now context.now.position.keys.now result ≡ choices_at body shared t others (next_at context.now.position.next) (status.Reacquire cond mutex cause) }
+    ensures value { (body : List Statement) (shared : SharedState) (t : Thread) (environment : Environment) → IsContext shared t environment context.now
+        → listed context.now.threads.now context.now.position.keys.now result ≡ choices_at body shared t environment (next_at context.now.position.next) (status.Reacquire cond mutex cause) }
     ensures within { AreWithin context.now.threads.now result }
 {
     let free = is_free_mutex(context.owners, mutex);
@@ -339,8 +339,8 @@ fn unblocked_choices(context: &Context, cond: u32, mutex: u32, cause: Cause) -> 
 #[tactic(auto, unfolding(pct_model::specs::ChoiceTable::ending_choices))]
 fn ending_choices(context: &Context) -> Choices
     requires { IsWhole context.now }
-    ensures value { (body : List Statement) (shared : SharedState) (t : Thread) (others : Others) → IsContext shared t others context.now
-        → listed context.now.threads.now context.now.position.keys.now result ≡ ending_choices body shared t others t.handlers }
+    ensures value { (body : List Statement) (shared : SharedState) (t : Thread) (environment : Environment) → IsContext shared t environment context.now
+        → listed context.now.threads.now context.now.position.keys.now result ≡ ending_choices body shared t environment t.handlers }
     ensures within { AreWithin context.now.threads.now result }
 {
     let position = &context.position;
@@ -356,8 +356,8 @@ fn ending_choices(context: &Context) -> Choices
 #[inline(always)]
 fn running_choices(context: &Context, at: &At) -> Choices
     requires { IsWhole context.now }
-    ensures value { (shared : SharedState) (t : Thread) (others : Others) → IsContext shared t others context.now
-        → listed context.now.threads.now context.now.position.keys.now result ≡ running_choices (body_of context.now.program.now.script at.now.frame.now.func) shared t others at.now.frame.now at.now.statement.now }
+    ensures value { (shared : SharedState) (t : Thread) (environment : Environment) → IsContext shared t environment context.now
+        → listed context.now.threads.now context.now.position.keys.now result ≡ running_choices (body_of context.now.program.now.script at.now.frame.now.func) shared t environment at.now.frame.now at.now.statement.now }
     ensures within { AreWithin context.now.threads.now result }
 {
     let cancel = &context.position.thread.cancel;
@@ -377,8 +377,8 @@ fn running_choices(context: &Context, at: &At) -> Choices
 #[inline(always)]
 fn requested_choices(context: &Context, statement: &Stmt) -> Choices
     requires { IsWhole context.now }
-    ensures value { (shared : SharedState) (t : Thread) (others : Others) → IsContext shared t others context.now
-        → listed context.now.threads.now context.now.position.keys.now result ≡ requested_choices shared others statement.now }
+    ensures value { (shared : SharedState) (t : Thread) (environment : Environment) → IsContext shared t environment context.now
+        → listed context.now.threads.now context.now.position.keys.now result ≡ requested_choices shared environment statement.now }
     ensures within { AreWithin context.now.threads.now result }
 {
     match called_kind(statement) {
@@ -392,8 +392,8 @@ fn requested_choices(context: &Context, statement: &Stmt) -> Choices
 #[inline(always)]
 fn statement_choices(context: &Context, statement: &Stmt) -> Choices
     requires { IsWhole context.now }
-    ensures value { (shared : SharedState) (t : Thread) (others : Others) → IsContext shared t others context.now
-        → listed context.now.threads.now context.now.position.keys.now result ≡ statement_choices shared others statement.now }
+    ensures value { (shared : SharedState) (t : Thread) (environment : Environment) → IsContext shared t environment context.now
+        → listed context.now.threads.now context.now.position.keys.now result ≡ statement_choices shared environment statement.now }
     ensures within { AreWithin context.now.threads.now result }
 {
     match statement {

@@ -2,7 +2,7 @@
 
 ghost use Rattle.std.specs.Prelude.{◌≡◌, Some, is_some, length, true};
 ghost use Rattle.pct_model.specs.World.{Thread};
-ghost use Rattle.pct_engine_laws.specs.SeenSteps.{others_in};
+ghost use Rattle.pct_engine_laws.specs.SeenSteps.{environment_in};
 ghost use Rattle.pct_process.specs.FamilyViews.{other_processes};
 ghost use Rattle.pct_process.specs.ProcessViews.{thread_on_slot};
 ghost use Rattle.pct_transitions.specs.Numbers.{NumbersFit};
@@ -55,7 +55,7 @@ impl<'a> Context<'a> {
     #[inline(always)]
     pub(crate) fn new(around: Surroundings<'a>, process: &'a ProcessState, slot: u32) -> Context<'a>
         requires { is_some (thread_on_slot process.now.slots slot) ≡ true }
-        ensures context { (t : Thread) → thread_on_slot process.now.slots slot ≡ Some t → IsContext process.now.shared t (others_in (length process.now.slots) (other_processes around.entry.family) process.now.slots t.id) result }
+        ensures context { (t : Thread) → thread_on_slot process.now.slots slot ≡ Some t → IsContext process.now.shared t (environment_in (length process.now.slots) (other_processes around.entry.family) process.now.slots t.id) result }
         ensures program { result.program.now ≡ around.entry.program.now }
         ensures whole { IsWhole result }
         ensures numbers { NewNumbersFit process.now → NumbersFit result.threads.now result.position.keys.now }

@@ -9,10 +9,10 @@ ghost use Rattle.pct_model.specs.World.{Thread};
 ghost use Rattle.pct_model.specs.NextStatement.{NextStatement, next_of};
 ghost use Rattle.pct_model.specs.MutexCalls.{is_free_mutex};
 ghost use Rattle.pct_model.specs.OtherProcesses.{Family as OtherProcesses};
-ghost use Rattle.pct_model.specs.OtherThreads.{Waiter, Others, is_ended_thread};
+ghost use Rattle.pct_model.specs.Environment.{Waiter, Environment, is_ended_thread};
 ghost use Rattle.pct_model.specs.ChoiceTable.{choices_at, running_choices, unblocked_acts, go_if, act_if, is_enabled};
 ghost use Rattle.pct_model.specs.StopTable.{is_fork_kind};
-ghost use Rattle.pct_engine_laws.specs.SeenSteps.{others_in};
+ghost use Rattle.pct_engine_laws.specs.SeenSteps.{environment_in};
 ghost use Rattle.pct_process.specs.ProcessViews.{thread_on_slot};
 ghost use Rattle.pct_transitions.specs.Positions.{next_at};
 ghost use Rattle.pct_transitions.specs.ThreadRecords.{IsRecord, HasCancelability};
@@ -67,7 +67,7 @@ pub fn count_in(process: &ProcessState, sem: u32) -> u32
 /// Whether the thread of a process with this id has ended, as each thread of the process sees it.
 #[inline(always)]
 pub fn has_ended(process: &ProcessState, id: u32) -> bool
-    ensures { (family : OtherProcesses) (tid : ℕ) → result ≡ is_ended_thread id (others_in (length process.now.slots) family process.now.slots tid) }
+    ensures { (family : OtherProcesses) (tid : ℕ) → result ≡ is_ended_thread id (environment_in (length process.now.slots) family process.now.slots tid) }
 {
     match process.threads.slot_named(id) {
         Some(slot) => exit_value_of(process.threads.read(slot).status).is_some(),
@@ -94,8 +94,8 @@ pub(crate) fn reacquires_or_acts(
     cause: Cause,
     cancel: &Cancel,
 ) -> bool
-    ensures { (body : List Statement) (t : Thread) (others : Others) (next : NextStatement) (cond : ℕ) → HasCancelability cancel.now t
-        → result ≡ is_enabled (choices_at body process.now.shared t others next (status.Reacquire cond mutex cause)) }
+    ensures { (body : List Statement) (t : Thread) (environment : Environment) (next : NextStatement) (cond : ℕ) → HasCancelability cancel.now t
+        → result ≡ is_enabled (choices_at body process.now.shared t environment next (status.Reacquire cond mutex cause)) }
 {
     is_unowned(process, mutex) || acts_after(cause, cancel)
 }
@@ -123,8 +123,8 @@ fn leaves_acts(cause: Cause) -> bool
 #[inline(always)]
 pub(crate) fn runs_on(program: &Program, process: &ProcessState, slot: u32, cancel: &Cancel) -> bool
     requires { is_some (thread_on_slot process.now.slots slot) ≡ true }
-    ensures { (body : List Statement) (t : Thread) (others : Others) → thread_on_slot process.now.slots slot ≡ Some t → HasCancelability cancel.now t
-        → result ≡ is_enabled (choices_at body process.now.shared t others (next_of program.now.script t.frames) status.Running) }
+    ensures { (body : List Statement) (t : Thread) (environment : Environment) → thread_on_slot process.now.slots slot ≡ Some t → HasCancelability cancel.now t
+        → result ≡ is_enabled (choices_at body process.now.shared t environment (next_of program.now.script t.frames) status.Running) }
 {
     match next_on(program, process, slot) {
         None => false,
@@ -136,8 +136,8 @@ pub(crate) fn runs_on(program: &Program, process: &ProcessState, slot: u32, canc
 // alone, while the mutex has an owner.
 #[inline(always)]
 fn runs_at(process: &ProcessState, cancel: &Cancel, at: &At) -> bool
-    ensures { (body : List Statement) (t : Thread) (others : Others) → HasCancelability cancel.now t
-        → result ≡ is_enabled (running_choices body process.now.shared t others at.now.frame.now at.now.statement.now) }
+    ensures { (body : List Statement) (t : Thread) (environment : Environment) → HasCancelability cancel.now t
+        → result ≡ is_enabled (running_choices body process.now.shared t environment at.now.frame.now at.now.statement.now) }
 {
     match at.statement {
         Stmt::Lock(mutex) => {

@@ -7,8 +7,8 @@ ghost use Rattle.pct_model.specs.declared.state.ForkAt.{ForkAt as ForkValues};
 ghost use Rattle.pct_model.specs.declared.state.Phase.TheVariants as phases;
 ghost use Rattle.pct_model.specs.ForkCalls.{handler_for, handler_at, handlers_among, next_handler, while_called, handler_event, calls_handler, registers_fork, begins_fork, forks_by, goes_on_after_handlers, goes_on_forking, leaves_handler, finds_no_child, begins_waitpid, reaps, waits_at};
 ghost use Rattle.pct_model.specs.NextStatement.{StatementIn};
-ghost use Rattle.pct_model.specs.OtherThreads.{Others};
-ghost use Rattle.pct_transitions.specs.Contexts.{IsWhole, SeesOthers};
+ghost use Rattle.pct_model.specs.Environment.{Environment};
+ghost use Rattle.pct_transitions.specs.Contexts.{IsWhole, IsEnvironment};
 ghost use Rattle.pct_transitions.specs.Positions.{next_at, IsAt};
 
 use crate::context::Context;
@@ -184,7 +184,7 @@ pub(crate) fn begins_fork(registered: &ForkRegistrations, transition: &mut Trans
 #[inline(never)]
 pub(crate) fn goes_on_forking(context: &Context, at: &ForkAt, transition: &mut Transition)
     requires { IsWhole context.now }
-    ensures { (others : Others) → SeesOthers context.now others → transition.new ≡ goes_on_forking (next_handler context.now.fork_handlers.now at.now) at.now others.family.new_pid (next_at context.now.position.next) }
+    ensures { (environment : Environment) → IsEnvironment context.now environment → transition.new ≡ goes_on_forking (next_handler context.now.fork_handlers.now at.now) at.now environment.family.new_pid (next_at context.now.position.next) }
 {
     match next_handler(context.fork_handlers.as_slice(), at) {
         Some(handler) => *transition = calls_handler(at, handler),
@@ -195,7 +195,7 @@ pub(crate) fn goes_on_forking(context: &Context, at: &ForkAt, transition: &mut T
 // The same where no handler of the phase is left.
 fn goes_on_after_handlers(context: &Context, at: &ForkAt, transition: &mut Transition)
     requires { IsWhole context.now }
-    ensures { (others : Others) → SeesOthers context.now others → transition.new ≡ goes_on_after_handlers at.now.phase at.now others.family.new_pid (next_at context.now.position.next) }
+    ensures { (environment : Environment) → IsEnvironment context.now environment → transition.new ≡ goes_on_after_handlers at.now.phase at.now environment.family.new_pid (next_at context.now.position.next) }
 {
     match (at.phase, &context.position.next) {
         (Phase::Prepare, _) => *transition = forks_by(at.length, context.new_pid()),
@@ -293,7 +293,7 @@ fn returns_in_child(context: &Context, at: &At) -> Transition
 /// reaped, the call fails.
 #[inline(always)]
 pub(crate) fn begins_waitpid(context: &Context, next: u32, pid: u32, answer: Dest) -> Transition
-    ensures { (others : Others) → SeesOthers context.now others → result ≡ begins_waitpid (others.family.child pid) pid next answer }
+    ensures { (environment : Environment) → IsEnvironment context.now environment → result ≡ begins_waitpid (environment.family.child pid) pid next answer }
 {
     match context.child(pid) {
         Some(_) => Transition {
@@ -317,7 +317,7 @@ fn finds_no_child(next: u32, answer: Dest) -> Transition
 #[inline(always)]
 pub(crate) fn waits_at(context: &Context, pid: u32, transition: &mut Transition)
     requires { IsWhole context.now }
-    ensures { (others : Others) → SeesOthers context.now others → transition.new ≡ waits_at (others.family.child pid) pid (next_at context.now.position.next) }
+    ensures { (environment : Environment) → IsEnvironment context.now environment → transition.new ≡ waits_at (environment.family.child pid) pid (next_at context.now.position.next) }
 {
     match &context.position.next {
         None => *transition = no_change(),
@@ -330,7 +330,7 @@ pub(crate) fn waits_at(context: &Context, pid: u32, transition: &mut Transition)
 #[inline(always)]
 fn waits_in(context: &Context, at: &At, pid: u32) -> Transition
     requires { IsAt context.now.program.now.script at.now }
-    ensures { (others : Others) → SeesOthers context.now others → result ≡ waits_at (others.family.child pid) pid (StatementIn at.now.frame.now at.now.statement.now) }
+    ensures { (environment : Environment) → IsEnvironment context.now environment → result ≡ waits_at (environment.family.child pid) pid (StatementIn at.now.frame.now at.now.statement.now) }
 {
     match at.statement {
         Stmt::WaitPid {

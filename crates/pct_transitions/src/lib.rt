@@ -26,10 +26,10 @@ mod thread_ends;
 mod transition_table;
 mod transitions;
 
-pub use cancel_calls::may_return;
+pub use cancel_calls::may_pass_point;
 pub use context::Surroundings;
 pub use current::At;
 pub use enabled_threads::{count_in, has_ended, is_unowned, next_on, record_of};
-pub use process_steps::{choice_at, choice_by, choice_count, has_choice, takes};
+pub use process_steps::{choice_at, choice_by, choice_count, has_choice, transition_if_offered};
 pub use program::Program;
 pub use transitions::no_change;

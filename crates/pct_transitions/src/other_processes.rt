@@ -2,36 +2,36 @@
 
 ghost use Rattle.std.specs.Prelude.{◌≡◌};
 ghost use Rattle.pct_model.specs.OtherProcesses.{is_running_child};
-ghost use Rattle.pct_model.specs.OtherThreads.{Others};
-ghost use Rattle.pct_transitions.specs.Contexts.{SeesOthers};
+ghost use Rattle.pct_model.specs.Environment.{Environment};
+ghost use Rattle.pct_transitions.specs.Contexts.{IsEnvironment};
 
 use crate::context::Context;
 use pct_model::Child;
 
 impl<'a> Context<'a> {
     /// The child of the process with the id, if it was not reaped.
-    #[tactic(auto, using(crate::proofs::OthersRead::family_read))]
+    #[tactic(auto, using(crate::proofs::EnvironmentRead::family_read))]
     #[inline(always)]
     pub(crate) fn child(&self, pid: u32) -> Option<Child>
-        ensures { (others : Others) → SeesOthers self.now others → result ≡ others.family.child pid }
+        ensures { (environment : Environment) → IsEnvironment self.now environment → result ≡ environment.family.child pid }
     {
         self.family.child(pid)
     }
 
     /// Whether the process has a child with the id that has not ended.
-    #[tactic(auto, using(crate::proofs::OthersRead::family_read))]
+    #[tactic(auto, using(crate::proofs::EnvironmentRead::family_read))]
     #[inline(always)]
     pub(crate) fn is_running_child(&self, pid: u32) -> bool
-        ensures { (others : Others) → SeesOthers self.now others → result ≡ is_running_child pid others.family }
+        ensures { (environment : Environment) → IsEnvironment self.now environment → result ≡ is_running_child pid environment.family }
     {
         self.family.is_running_child(pid)
     }
 
     /// The id that a new process gets, if one can be made.
-    #[tactic(auto, using(crate::proofs::OthersRead::family_read))]
+    #[tactic(auto, using(crate::proofs::EnvironmentRead::family_read))]
     #[inline(always)]
     pub(crate) fn new_pid(&self) -> Option<u32>
-        ensures { (others : Others) → SeesOthers self.now others → result ≡ others.family.new_pid }
+        ensures { (environment : Environment) → IsEnvironment self.now environment → result ≡ environment.family.new_pid }
     {
         self.family.new_pid()
     }

@@ -2,11 +2,11 @@
 
 ghost use Rattle.std.specs.Prelude.{◌≡◌, ◌<◌, true, All, length, map, option_map};
 ghost use Rattle.std.specs.List.{list_any};
-ghost use Rattle.pct_model.specs.OtherThreads.{Others, exit_value_of, exit_value_with, waits_with_another_mutex, is_joining};
+ghost use Rattle.pct_model.specs.Environment.{Environment, exit_value_of, exit_value_with, waits_with_another_mutex, is_joining};
 ghost use Rattle.pct_model.specs.CondCalls.{is_waiting_on};
 ghost use Rattle.pct_set.specs.Slots.{slots_where};
 ghost use Rattle.pct_threads.specs.Tables.{held_at, is_occupied_at, next_id_at};
-ghost use Rattle.pct_transitions.specs.Contexts.{SeesOthers, IsWhole};
+ghost use Rattle.pct_transitions.specs.Contexts.{IsEnvironment, IsWhole};
 ghost use Rattle.pct_transitions.specs.OtherThreads.{any_on, ids_on, is_waiting_with_another};
 
 use crate::context::Context;
@@ -20,7 +20,7 @@ impl<'a> Context<'a> {
     #[inline(always)]
     pub(crate) fn detached(&self, id: u32) -> Option<bool>
         requires { IsWhole self.now }
-        ensures { (others : Others) → SeesOthers self.now others → result ≡ option_map (λ t. t.detached) (others.named id) }
+        ensures { (environment : Environment) → IsEnvironment self.now environment → result ≡ option_map (λ t. t.detached) (environment.named id) }
     {
         let slot = self.threads.slot_named(id)?;
         Some(self.threads.place(slot).detached)
@@ -30,7 +30,7 @@ impl<'a> Context<'a> {
     #[inline(always)]
     pub(crate) fn exit_value_with(&self, id: u32) -> Option<u32>
         requires { IsWhole self.now }
-        ensures { (others : Others) → SeesOthers self.now others → result ≡ exit_value_with id others }
+        ensures { (environment : Environment) → IsEnvironment self.now environment → result ≡ exit_value_with id environment }
     {
         let slot = self.threads.slot_named(id)?;
         exit_value_of(self.threads.read(slot).status)
@@ -40,7 +40,7 @@ impl<'a> Context<'a> {
     #[inline(always)]
     pub(crate) fn another_joins(&self, id: u32) -> bool
         requires { IsWhole self.now }
-        ensures { (others : Others) → SeesOthers self.now others → result ≡ others.another_joins id }
+        ensures { (environment : Environment) → IsEnvironment self.now environment → result ≡ environment.another_joins id }
     {
         is_joined(self.threads, id)
     }
@@ -49,7 +49,7 @@ impl<'a> Context<'a> {
     #[inline(always)]
     pub(crate) fn free_slots(&self) -> SlotSet
         requires { IsWhole self.now }
-        ensures ids { (others : Others) → SeesOthers self.now others → map (next_id_at self.now.threads.now) result ≡ others.new_ids }
+        ensures ids { (environment : Environment) → IsEnvironment self.now environment → map (next_id_at self.now.threads.now) result ≡ environment.new_ids }
         ensures within { All (λ s. s < length self.now.threads.now) result }
     {
         self.threads.free()
@@ -59,7 +59,7 @@ impl<'a> Context<'a> {
     #[inline(always)]
     pub(crate) fn waiters(&self, cond: u32) -> SlotSet
         requires { IsWhole self.now }
-        ensures ids { (others : Others) → SeesOthers self.now others → ids_on self.now.threads.now result ≡ map (λ waiter. waiter.id) (others.waiters cond) }
+        ensures ids { (environment : Environment) → IsEnvironment self.now environment → ids_on self.now.threads.now result ≡ map (λ waiter. waiter.id) (environment.waiters cond) }
         ensures held { All (λ s. is_occupied_at self.now.threads.now s ≡ true) result }
     {
         // A table has at most 64 slots.
@@ -71,7 +71,7 @@ impl<'a> Context<'a> {
     #[inline(always)]
     pub(crate) fn waits_with_another_mutex(&self, cond: u32, mutex: u32) -> bool
         requires { IsWhole self.now }
-        ensures { (others : Others) → SeesOthers self.now others → result ≡ waits_with_another_mutex cond mutex others }
+        ensures { (environment : Environment) → IsEnvironment self.now environment → result ≡ waits_with_another_mutex cond mutex environment }
     {
         is_another_mutex_used(self.threads, cond, mutex)
     }
@@ -80,7 +80,7 @@ impl<'a> Context<'a> {
     #[inline(always)]
     pub(crate) fn is_last(&self) -> bool
         requires { IsWhole self.now }
-        ensures { (others : Others) → SeesOthers self.now others → result ≡ others.is_last }
+        ensures { (environment : Environment) → IsEnvironment self.now environment → result ≡ environment.is_last }
     {
         is_last(self.threads, self.position.id)
     }

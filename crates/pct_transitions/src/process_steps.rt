@@ -9,7 +9,7 @@ ghost use Rattle.pct_process.specs.FamilyViews.{other_processes};
 ghost use Rattle.pct_process.specs.ProcessViews.{thread_on_slot};
 ghost use Rattle.pct_transitions.specs.ProcessSteps.{with_data, NewNumbersFit, ForksHaveRoom, Takes};
 
-use crate::cancel_calls::may_return;
+use crate::cancel_calls::may_pass_point;
 use crate::choice_table::choices_at;
 use crate::context::{Context, Surroundings};
 use crate::enabled_threads::{
@@ -33,7 +33,7 @@ pub fn has_choice(around: Surroundings, process: &ProcessState, slot: u32) -> bo
         Status::Reacquire(_, mutex, cause) => {
             reacquires_or_acts(process, mutex, cause, &thread.cancel)
         }
-        Status::AtPoint(index) => goes_or_acts(may_return(index), &thread.cancel),
+        Status::AtPoint(index) => goes_or_acts(may_pass_point(index), &thread.cancel),
         Status::Joining(id) => goes_or_acts(has_ended(process, id), &thread.cancel),
         Status::InSem(sem) => goes_or_acts(count_in(process, sem) > 0, &thread.cancel),
         Status::InWaitPid(pid) => {
@@ -96,7 +96,7 @@ pub fn choice_at(
 // ---- steps
 
 /// Whether a choice of the thread on a slot is offered. If it is, what the thread does by it is written to `transition`.
-pub fn takes(
+pub fn transition_if_offered(
     around: Surroundings,
     process: &ProcessState,
     slot: u32,

@@ -2,7 +2,7 @@
 
 ghost use Rattle.std.specs.Prelude.{◌≡◌, slice_index};
 ghost use Rattle.pct_model.specs.NextStatement.{StatementIn};
-ghost use Rattle.pct_model.specs.SemCalls.{begins_sem_wait, takes, posts};
+ghost use Rattle.pct_model.specs.SemCalls.{begins_sem_wait, ends_sem_wait, posts};
 ghost use Rattle.pct_transitions.specs.Contexts.{IsWhole};
 ghost use Rattle.pct_transitions.specs.Positions.{next_at, IsAt};
 
@@ -32,23 +32,23 @@ pub(crate) fn begins_sem_wait(sem: u32) -> Transition
 }
 
 /// A thread that is suspended in sem_wait for the semaphore with this index decrements the count, and returns.
-#[tactic(auto, unfolding(pct_model::specs::SemCalls::takes))]
+#[tactic(auto, unfolding(pct_model::specs::SemCalls::ends_sem_wait))]
 #[inline(always)]
-pub(crate) fn takes(context: &Context, sem: u32, transition: &mut Transition)
+pub(crate) fn ends_sem_wait(context: &Context, sem: u32, transition: &mut Transition)
     requires { IsWhole context.now }
-    ensures { transition.new ≡ takes sem (slice_index context.now.counts.now sem) (next_at context.now.position.next) }
+    ensures { transition.new ≡ ends_sem_wait sem (slice_index context.now.counts.now sem) (next_at context.now.position.next) }
 {
     match &context.position.next {
         None => *transition = no_change(),
-        Some(at) => *transition = takes_in(context, at, sem),
+        Some(at) => *transition = ends_sem_wait_in(context, at, sem),
     }
 }
 
 // The same, at a statement of its top frame.
-#[tactic(auto, using(crate::proofs::Bodies::pc_within), unfolding(pct_model::specs::SemCalls::takes))]
-fn takes_in(context: &Context, at: &At, sem: u32) -> Transition
+#[tactic(auto, using(crate::proofs::Bodies::pc_within), unfolding(pct_model::specs::SemCalls::ends_sem_wait))]
+fn ends_sem_wait_in(context: &Context, at: &At, sem: u32) -> Transition
     requires { IsAt context.now.program.now.script at.now }
-    ensures { result ≡ takes sem (slice_index context.now.counts.now sem) (StatementIn at.now.frame.now at.now.statement.now) }
+    ensures { result ≡ ends_sem_wait sem (slice_index context.now.counts.now sem) (StatementIn at.now.frame.now at.now.statement.now) }
 {
     match at.statement {
         Stmt::SemWait(_) => Transition {

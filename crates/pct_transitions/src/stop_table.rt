@@ -6,11 +6,11 @@ ghost use Rattle.pct_model.specs.declared.stop.Why.TheVariants as why;
 ghost use Rattle.pct_model.specs.declared.frame.Frame.{Frame as FrameRecord};
 ghost use Rattle.pct_model.specs.declared.limits.TheConstants.{MAX_HANDLERS};
 ghost use Rattle.pct_model.specs.World.{Thread, SharedState, body_of};
-ghost use Rattle.pct_model.specs.OtherThreads.{Others, no_live_thread, is_detached_thread, waits_with_another_mutex};
+ghost use Rattle.pct_model.specs.Environment.{Environment, names_no_thread, is_detached_thread, waits_with_another_mutex};
 ghost use Rattle.pct_model.specs.MutexCalls.{owns};
 ghost use Rattle.pct_model.specs.Keys.{key_with};
 ghost use Rattle.pct_model.specs.StopTable.{stop_at, stops_of, first_stop, is_stack_full, has_begun_to_end, exits_twice, closes_function, is_handler_kind, is_in_handler, is_allowed_asynchronously, is_safe_point, is_inner_kind, is_fork_kind, is_allowed_in_child, is_forbidden_in_child};
-ghost use Rattle.pct_transitions.specs.Contexts.{IsContext, IsWhole, SeesOthers};
+ghost use Rattle.pct_transitions.specs.Contexts.{IsContext, IsWhole, IsEnvironment};
 
 use crate::context::Context;
 use crate::current::{At, value_of};
@@ -28,8 +28,8 @@ use pct_model::{
 #[tactic(auto, unfolding(pct_model::specs::StopTable::stop_at))]
 pub(crate) fn stop_at(context: &Context, at: &At) -> Option<Why>
     requires { IsWhole context.now }
-    ensures { (shared : SharedState) (t : Thread) (others : Others) → IsContext shared t others context.now
-        → result ≡ stop_at (body_of context.now.program.now.script at.now.frame.now.func) shared t others at.now.frame.now at.now.statement.now }
+    ensures { (shared : SharedState) (t : Thread) (environment : Environment) → IsContext shared t environment context.now
+        → result ≡ stop_at (body_of context.now.program.now.script at.now.frame.now.func) shared t environment at.now.frame.now at.now.statement.now }
 {
     if is_forbidden_in_child(context, at) {
         Some(Why::ForkChildCall)
@@ -46,8 +46,8 @@ pub(crate) fn stop_at(context: &Context, at: &At) -> Option<Why>
 #[tactic(auto, unfolding(pct_model::specs::StopTable::stops_of))]
 fn own_stop(context: &Context, at: &At) -> Option<Why>
     requires { IsWhole context.now }
-    ensures { (shared : SharedState) (t : Thread) (others : Others) → IsContext shared t others context.now
-        → result ≡ first_stop (stops_of (body_of context.now.program.now.script at.now.frame.now.func) shared t others at.now.frame.now at.now.statement.now) }
+    ensures { (shared : SharedState) (t : Thread) (environment : Environment) → IsContext shared t environment context.now
+        → result ≡ first_stop (stops_of (body_of context.now.program.now.script at.now.frame.now.func) shared t environment at.now.frame.now at.now.statement.now) }
 {
     let position = &context.position;
     let globals = context.globals;
@@ -99,12 +99,12 @@ fn own_stop(context: &Context, at: &At) -> Option<Why>
 }
 
 // The stop of pthread_join for the thread with an id.
-#[tactic(auto, using(crate::proofs::OthersRead::none_named, crate::proofs::OthersRead::detached_named))]
+#[tactic(auto, using(crate::proofs::EnvironmentRead::none_named, crate::proofs::EnvironmentRead::detached_named))]
 #[inline(always)]
 fn stop_of_join(context: &Context, id: u32) -> Option<Why>
     requires { IsWhole context.now }
-    ensures { (others : Others) → SeesOthers context.now others
-        → result ≡ first_stop ((no_live_thread id others, why.ThreadId) ∷ (nat_eq id context.now.position.id, why.JoinSelf) ∷ (is_detached_thread id others, why.NotJoinable) ∷ (others.another_joins id, why.JoinTwice) ∷ []) }
+    ensures { (environment : Environment) → IsEnvironment context.now environment
+        → result ≡ first_stop ((names_no_thread id environment, why.ThreadId) ∷ (nat_eq id context.now.position.id, why.JoinSelf) ∷ (is_detached_thread id environment, why.NotJoinable) ∷ (environment.another_joins id, why.JoinTwice) ∷ []) }
 {
     let detached = context.detached(id);
     first_stop(&[
@@ -116,12 +116,12 @@ fn stop_of_join(context: &Context, id: u32) -> Option<Why>
 }
 
 // The stop of pthread_detach of the thread with an id.
-#[tactic(auto, using(crate::proofs::OthersRead::none_named, crate::proofs::OthersRead::detached_named))]
+#[tactic(auto, using(crate::proofs::EnvironmentRead::none_named, crate::proofs::EnvironmentRead::detached_named))]
 #[inline(always)]
 fn stop_of_detach(context: &Context, id: u32) -> Option<Why>
     requires { IsWhole context.now }
-    ensures { (others : Others) → SeesOthers context.now others
-        → result ≡ first_stop ((no_live_thread id others, why.ThreadId) ∷ (is_detached_thread id others, why.NotJoinable) ∷ (others.another_joins id, why.DetachJoined) ∷ []) }
+    ensures { (environment : Environment) → IsEnvironment context.now environment
+        → result ≡ first_stop ((names_no_thread id environment, why.ThreadId) ∷ (is_detached_thread id environment, why.NotJoinable) ∷ (environment.another_joins id, why.DetachJoined) ∷ []) }
 {
     let detached = context.detached(id);
     first_stop(&[
@@ -132,11 +132,11 @@ fn stop_of_detach(context: &Context, id: u32) -> Option<Why>
 }
 
 // The stop of a call that names the thread with an id.
-#[tactic(auto, using(crate::proofs::OthersRead::none_named))]
+#[tactic(auto, using(crate::proofs::EnvironmentRead::none_named))]
 #[inline(always)]
 fn stop_of_request(context: &Context, id: u32) -> Option<Why>
     requires { IsWhole context.now }
-    ensures { (others : Others) → SeesOthers context.now others → result ≡ first_stop ((no_live_thread id others, why.ThreadId) ∷ []) }
+    ensures { (environment : Environment) → IsEnvironment context.now environment → result ≡ first_stop ((names_no_thread id environment, why.ThreadId) ∷ []) }
 {
     first_stop(&[(context.detached(id).is_none(), Why::ThreadId)])
 }
@@ -152,8 +152,8 @@ fn stop_of_key(keys: &Keys, key: u32) -> Option<Why>
 #[inline(always)]
 fn stop_of_wait(context: &Context, cond: u32, mutex: u32) -> Option<Why>
     requires { IsWhole context.now }
-    ensures { (shared : SharedState) (others : Others) → context.now.owners.now ≡ shared.owners → SeesOthers context.now others
-        → result ≡ first_stop ((not (owns context.now.position.id mutex shared), why.NotOwner) ∷ (waits_with_another_mutex cond mutex others, why.CondTwoMutexes) ∷ []) }
+    ensures { (shared : SharedState) (environment : Environment) → context.now.owners.now ≡ shared.owners → IsEnvironment context.now environment
+        → result ≡ first_stop ((not (owns context.now.position.id mutex shared), why.NotOwner) ∷ (waits_with_another_mutex cond mutex environment, why.CondTwoMutexes) ∷ []) }
 {
     first_stop(&[
         (

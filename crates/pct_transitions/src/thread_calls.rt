@@ -3,9 +3,9 @@
 
 ghost use Rattle.std.specs.Prelude.{◌≡◌, Some};
 ghost use Rattle.pct_model.specs.NextStatement.{StatementIn};
-ghost use Rattle.pct_model.specs.OtherThreads.{Others, exit_value_with};
+ghost use Rattle.pct_model.specs.Environment.{Environment, exit_value_with};
 ghost use Rattle.pct_model.specs.ThreadCalls.{creates, fails_to_create, creates_by, begins_join, ends_join, joins_at, detaches, gets_self};
-ghost use Rattle.pct_transitions.specs.Contexts.{IsWhole, SeesOthers};
+ghost use Rattle.pct_transitions.specs.Contexts.{IsWhole, IsEnvironment};
 ghost use Rattle.pct_transitions.specs.Positions.{next_at, IsAt};
 
 use crate::context::Context;
@@ -87,7 +87,7 @@ pub(crate) fn begins_join(id: u32) -> Transition
 #[inline(always)]
 pub(crate) fn joins_at(context: &Context, id: u32, transition: &mut Transition)
     requires { IsWhole context.now }
-    ensures { (others : Others) → SeesOthers context.now others → transition.new ≡ joins_at (exit_value_with id others) id (next_at context.now.position.next) }
+    ensures { (environment : Environment) → IsEnvironment context.now environment → transition.new ≡ joins_at (exit_value_with id environment) id (next_at context.now.position.next) }
 {
     match context.exit_value_with(id) {
         None => *transition = no_change(),

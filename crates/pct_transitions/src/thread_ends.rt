@@ -6,7 +6,7 @@ ghost use Rattle.pct_model.specs.declared.event.What.TheVariants.{EndedWith, Exi
 ghost use Rattle.pct_model.specs.declared.script.Script.{Script};
 ghost use Rattle.pct_model.specs.declared.schedule.Alt.{Alt as Choice};
 ghost use Rattle.pct_model.specs.Keys.{KeyPlace, key_place, key_with, value_at};
-ghost use Rattle.pct_model.specs.OtherThreads.{Others};
+ghost use Rattle.pct_model.specs.Environment.{Environment};
 ghost use Rattle.pct_model.specs.World.{Thread, SharedState};
 ghost use Rattle.pct_model.specs.ThreadEnds.{ends_by_exit, end_value, leftover, ends_thread, calls_destructor, goes_on_ending};
 ghost use Rattle.pct_transitions.specs.Contexts.{IsContext, IsWhole};
@@ -44,8 +44,8 @@ pub(crate) fn goes_on_ending(
     transition: &mut Transition,
 )
     requires { IsWhole context.now }
-    ensures { (shared : SharedState) (t : Thread) (others : Others) → IsContext shared t others context.now
-        → transition.new ≡ goes_on_ending others.is_last passes shared.keys t choice t.handlers }
+    ensures { (shared : SharedState) (t : Thread) (environment : Environment) → IsContext shared t environment context.now
+        → transition.new ≡ goes_on_ending environment.is_last passes shared.keys t choice t.handlers }
 {
     match context.position.thread.handlers.newest() {
         None => without_handlers(context, passes, choice, transition),
@@ -70,8 +70,8 @@ fn runs_handler(func: u32, arg: u32) -> Transition
 #[inline(always)]
 fn without_handlers(context: &Context, passes: u32, choice: Alt, transition: &mut Transition)
     requires { IsWhole context.now }
-    ensures { (shared : SharedState) (t : Thread) (others : Others) → IsContext shared t others context.now
-        → transition.new ≡ goes_on_ending others.is_last passes shared.keys t choice [] }
+    ensures { (shared : SharedState) (t : Thread) (environment : Environment) → IsContext shared t environment context.now
+        → transition.new ≡ goes_on_ending environment.is_last passes shared.keys t choice [] }
 {
     let position = &context.position;
     match choice {

@@ -5,7 +5,7 @@ ghost use Rattle.pct_model.specs.declared.limits.TheConstants.{MAX_FRAMES, MAX_P
 ghost use Rattle.pct_model.specs.declared.state.Status.TheVariants as status;
 ghost use Rattle.pct_model.specs.World.{Thread, SharedState, body_of};
 ghost use Rattle.pct_model.specs.StatusKinds.{is_forking};
-ghost use Rattle.pct_model.specs.OtherThreads.{Others};
+ghost use Rattle.pct_model.specs.Environment.{Environment};
 ghost use Rattle.pct_model.specs.StopTable.{stop_at};
 ghost use Rattle.pct_model.specs.NextStatement.{next_of, body_at};
 ghost use Rattle.pct_model.specs.TransitionTable.{acts_or, transition_at, stops_or, runs};
@@ -31,7 +31,7 @@ use crate::process_exit::{
 use crate::script_statements::{
     adds, after_block, after_test, calls, emits, ends_block, jumps, sets,
 };
-use crate::sem_calls::{begins_sem_wait, count_of, posts, takes};
+use crate::sem_calls::{begins_sem_wait, count_of, ends_sem_wait, posts};
 use crate::stop_table::stop_at;
 use crate::thread_calls::{CreateCall, begins_join, creates_by, detaches, gets_self, joins_at};
 use crate::thread_ends::{ends_by_exit, goes_on_ending};
@@ -48,10 +48,10 @@ use pct_model::{Alt, ForkHandlers, Status, Stmt, Transition};
 /// keep the limits, where a thread in fork has room for the frame of a fork handler.
 pub(crate) fn transition_by(context: &Context, choice: Alt, transition: &mut Transition)
     requires { IsWhole context.now }
-    ensures value { (shared : SharedState) (t : Thread) (others : Others) → IsContext shared t others context.now
+    ensures value { (shared : SharedState) (t : Thread) (environment : Environment) → IsContext shared t environment context.now
         → let script = context.now.program.now.script in
-        transition.new ≡ acts_or choice t.status (transition_at context.now.program.now.config.passes (body_at script t.frames) shared t others choice (next_of script t.frames) t.status) }
-    ensures fits { (shared : SharedState) (t : Thread) (others : Others) → IsContext shared t others context.now → (is_forking t.status ≡ true → length t.frames ≤ MAX_FRAMES) → TransitionFits (length t.frames) (length t.handlers) t.pass transition.new }
+        transition.new ≡ acts_or choice t.status (transition_at context.now.program.now.config.passes (body_at script t.frames) shared t environment choice (next_of script t.frames) t.status) }
+    ensures fits { (shared : SharedState) (t : Thread) (environment : Environment) → IsContext shared t environment context.now → (is_forking t.status ≡ true → length t.frames ≤ MAX_FRAMES) → TransitionFits (length t.frames) (length t.handlers) t.pass transition.new }
 {
     match choice {
         Alt::Act(id) => acts_on_request(id, context.position.thread.status, transition),
@@ -63,9 +63,9 @@ pub(crate) fn transition_by(context: &Context, choice: Alt, transition: &mut Tra
 #[tactic(auto, unfolding(pct_model::specs::TransitionTable::transition_at))]
 fn transition_at(context: &Context, choice: Alt, transition: &mut Transition)
     requires { IsWhole context.now }
-    ensures value { (shared : SharedState) (t : Thread) (others : Others) → IsContext shared t others context.now
+    ensures value { (shared : SharedState) (t : Thread) (environment : Environment) → IsContext shared t environment context.now
         → let script = context.now.program.now.script in
-        transition.new ≡ transition_at context.now.program.now.config.passes (body_at script t.frames) shared t others choice (next_of script t.frames) t.status }
+        transition.new ≡ transition_at context.now.program.now.config.passes (body_at script t.frames) shared t environment choice (next_of script t.frames) t.status }
     ensures limit { context.now.program.now.config.passes ≤ MAX_PASSES }
 {
     let program = context.program;
@@ -74,7 +74,7 @@ fn transition_at(context: &Context, choice: Alt, transition: &mut Transition)
         Status::Running => running(context, choice, transition),
         Status::AtPoint(index) => passes_point(context, index, transition),
         Status::Joining(id) => joins_at(context, id, transition),
-        Status::InSem(sem) => takes(context, sem, transition),
+        Status::InSem(sem) => ends_sem_wait(context, sem, transition),
         Status::InWaitPid(pid) => waits_at(context, pid, transition),
         Status::Reacquire(cond, mutex, cause) => {
             reacquires(context, cond, mutex, cause, transition);
@@ -92,9 +92,9 @@ fn transition_at(context: &Context, choice: Alt, transition: &mut Transition)
 #[tactic(auto, unfolding(pct_model::specs::TransitionTable::transition_at))]
 fn running(context: &Context, choice: Alt, transition: &mut Transition)
     requires { IsWhole context.now }
-    ensures { (shared : SharedState) (t : Thread) (others : Others) → IsContext shared t others context.now
+    ensures { (shared : SharedState) (t : Thread) (environment : Environment) → IsContext shared t environment context.now
         → let script = context.now.program.now.script in
-        transition.new ≡ transition_at context.now.program.now.config.passes (body_at script t.frames) shared t others choice (next_of script t.frames) status.Running }
+        transition.new ≡ transition_at context.now.program.now.config.passes (body_at script t.frames) shared t environment choice (next_of script t.frames) status.Running }
 {
     match &context.position.next {
         None => *transition = no_change(),
@@ -106,9 +106,9 @@ fn running(context: &Context, choice: Alt, transition: &mut Transition)
 fn stops_or_runs(context: &Context, at: &At, choice: Alt, transition: &mut Transition)
     requires whole { IsWhole context.now }
     requires at { IsAt context.now.program.now.script at.now }
-    ensures { (shared : SharedState) (t : Thread) (others : Others) → IsContext shared t others context.now
+    ensures { (shared : SharedState) (t : Thread) (environment : Environment) → IsContext shared t environment context.now
         → let body = body_of context.now.program.now.script at.now.frame.now.func in
-        transition.new ≡ stops_or (stop_at body shared t others at.now.frame.now at.now.statement.now) (runs context.now.program.now.config.passes body shared t others choice at.now.frame.now at.now.statement.now) }
+        transition.new ≡ stops_or (stop_at body shared t environment at.now.frame.now at.now.statement.now) (runs context.now.program.now.config.passes body shared t environment choice at.now.frame.now at.now.statement.now) }
 {
     match stop_at(context, at) {
         Some(why) => *transition = stops(why),
@@ -121,8 +121,8 @@ fn stops_or_runs(context: &Context, at: &At, choice: Alt, transition: &mut Trans
 fn runs(context: &Context, at: &At, choice: Alt, transition: &mut Transition)
     requires whole { IsWhole context.now }
     requires at { IsAt context.now.program.now.script at.now }
-    ensures { (shared : SharedState) (t : Thread) (others : Others) → IsContext shared t others context.now
-        → transition.new ≡ runs context.now.program.now.config.passes (body_of context.now.program.now.script at.now.frame.now.func) shared t others choice at.now.frame.now at.now.statement.now }
+    ensures { (shared : SharedState) (t : Thread) (environment : Environment) → IsContext shared t environment context.now
+        → transition.new ≡ runs context.now.program.now.config.passes (body_of context.now.program.now.script at.now.frame.now.func) shared t environment choice at.now.frame.now at.now.statement.now }
 {
     let program = context.program;
     let globals = context.globals;

@@ -1,11 +1,11 @@
 -- A thread that waits cannot go on, and one that has no choice waits.
-use Rattle.pct_names.proofs.Names.{◌++◌, ◌<◌, [], All, All-head, Alt, ap, arith, body_at, body_of, Bool, choices_at, choices_of, false}
-use Rattle.pct_names.proofs.Names.{false_from_ne_true, false≢true, Frame, Func, go_if, has_no_frame, if◌then◌else◌, is_blocked, is_empty}
-use Rattle.pct_names.proofs.Names.{is_enabled, is_ended_status, is_ended_thread, is_free_mutex, is_running_child, is_some, length, List}
-use Rattle.pct_names.proofs.Names.{made_process, may_return, nat_lt, next_in, next_of, NextStatement, None, NoStatement, not, offers}
-use Rattle.pct_names.proofs.Names.{Option, option_and_then, option_map_or, Others, others_of, Process, refl, Script, SharedState, slice_get}
-use Rattle.pct_names.proofs.Names.{slice_get-get_or, slice_index, Some, statement_at, StatementIn, Status, Stmt, subst, sym, Thread, true}
-use Rattle.pct_names.proofs.Names.{true_from_ne_false, World, ◌∙◌, ◌∷◌, ◌≡◌}
+use Rattle.pct_names.proofs.Names.{◌++◌, ◌<◌, [], All, All-head, Alt, ap, arith, body_at, body_of, Bool, choices_at, choices_of}
+use Rattle.pct_names.proofs.Names.{Environment, environment_of, false, false_from_ne_true, false≢true, Frame, Func, go_if, has_no_frame}
+use Rattle.pct_names.proofs.Names.{if◌then◌else◌, is_blocked, is_empty, is_enabled, is_ended_status, is_ended_thread, is_free_mutex}
+use Rattle.pct_names.proofs.Names.{is_running_child, is_some, length, List, made_process, may_pass_point, nat_lt, next_in, next_of}
+use Rattle.pct_names.proofs.Names.{NextStatement, None, NoStatement, not, offers, Option, option_and_then, option_map_or, Process, refl}
+use Rattle.pct_names.proofs.Names.{Script, SharedState, slice_get, slice_get-get_or, slice_index, Some, statement_at, StatementIn, Status}
+use Rattle.pct_names.proofs.Names.{Stmt, subst, sym, Thread, true, true_from_ne_false, World, ◌∙◌, ◌∷◌, ◌≡◌}
 use Rattle.std.proofs.lemmas.Bool.{true≢false}
 use Rattle.pct_model.specs.declared.schedule.Alt.TheVariants as alt
 use Rattle.pct_model.specs.declared.state.Status.TheVariants as status
@@ -13,7 +13,7 @@ use Rattle.pct_model.specs.declared.statement.Stmt.TheVariants as statement
 use Rattle.pct_transition_cases.proofs.OfferedChoices.{goes_at, may_go_on, offered_of}
 use Rattle.pct_transition_cases.proofs.EnabledChoices.{ending_enabled, running_enabled}
 use Rattle.pct_ending_laws.proofs.KeptStates.{every_state_is_kept}
-use Rattle.pct_thread_invariants.proofs.lift.MadeThreads.{IsLive, live_thread, process_is_made}
+use Rattle.pct_thread_invariants.proofs.lift.MadeThreads.{HasValidId, with_valid_id, process_is_made}
 use Rattle.pct_thread_invariants.proofs.lift.ProcessIds.{HavePids, have_pids, ids_of_made}
 use Rattle.pct_view_laws.specs.declared.wait.Wait.{Wait}
 use Rattle.pct_view_laws.specs.Listed.{BlockedThreadsWait, IsBlockedIfWaiting}
@@ -53,51 +53,51 @@ has_statement (StatementIn frame s) = true
 
 -- ---- by status
 
-module _ (shared : SharedState) (others : Others) where
+module _ (shared : SharedState) (environment : Environment) where
   -- a thread that has not ended waits by its status exactly if what the status waits for has not occurred
-  waits_unless_goes : (s : Status) → is_ended_status s ≡ false → is_some (wait_in shared others s) ≡ not (goes_at shared others s)
+  waits_unless_goes : (s : Status) → is_ended_status s ≡ false → is_some (wait_in shared environment s) ≡ not (goes_at shared environment s)
   unfolding wait_in
-  waits_unless_goes (status.AtPoint index) alive = waits_unless (may_return index) _
-  waits_unless_goes (status.Joining id) alive = waits_unless (is_ended_thread id others) _
+  waits_unless_goes (status.AtPoint index) alive = waits_unless (may_pass_point index) _
+  waits_unless_goes (status.Joining id) alive = waits_unless (is_ended_thread id environment) _
   waits_unless_goes (status.InSem s) alive = waits_unless (nat_lt 0 (slice_index shared.counts s)) _
-  waits_unless_goes (status.InWaitPid pid) alive = waits_if (is_running_child pid others.family) _
+  waits_unless_goes (status.InWaitPid pid) alive = waits_if (is_running_child pid environment.family) _
   waits_unless_goes (status.Reacquire c m why) alive = waits_unless (is_free_mutex m shared) _
   waits_unless_goes (status.Ended v) alive = absurd (true≢false alive)
   waits_unless_goes _ alive = refl
 
   -- so it waits where it cannot go on and has no other choice
-  suspended_waits : (s : Status) (acting : List Alt) → is_ended_status s ≡ false → is_enabled (go_if (goes_at shared others s) ++ acting) ≡ false → is_some (wait_in shared others s) ≡ true
-  suspended_waits s acting alive none = waits_unless_goes s alive ∙ ap not (go_disabled (goes_at shared others s) acting none)
+  suspended_waits : (s : Status) (acting : List Alt) → is_ended_status s ≡ false → is_enabled (go_if (goes_at shared environment s) ++ acting) ≡ false → is_some (wait_in shared environment s) ≡ true
+  suspended_waits s acting alive none = waits_unless_goes s alive ∙ ap not (go_disabled (goes_at shared environment s) acting none)
 
   -- at a statement that blocks a thread, it waits
-  waits_at_blocked : (frame : Frame) (s : Stmt) → is_blocked s shared ≡ true → is_some (wait_at shared others (StatementIn frame s)) ≡ true
+  waits_at_blocked : (frame : Frame) (s : Stmt) → is_blocked s shared ≡ true → is_some (wait_at shared environment (StatementIn frame s)) ≡ true
   unfolding wait_at
   waits_at_blocked frame (statement.Lock m) blocked = waits_unless (is_free_mutex m shared) _ ∙ blocked
   waits_at_blocked frame _ blocked = absurd (false≢true blocked)
 
-module _ (body : List Stmt) (shared : SharedState) (t : Thread) (others : Others) where
+module _ (body : List Stmt) (shared : SharedState) (t : Thread) (environment : Environment) where
   -- a thread that waits cannot go on
-  waiting_blocked : (next : NextStatement) (s : Status) (choices : List Alt) → (offers choices alt.Go ≡ true → goes_at shared others s ≡ true) → is_ended_status s ≡ false → is_some (wait_by shared others choices next s) ≡ true → offers choices alt.Go ≡ false
+  waiting_blocked : (next : NextStatement) (s : Status) (choices : List Alt) → (offers choices alt.Go ≡ true → goes_at shared environment s ≡ true) → is_ended_status s ≡ false → is_some (wait_by shared environment choices next s) ≡ true → offers choices alt.Go ≡ false
   unfolding wait_by
-  waiting_blocked next status.Running choices goes alive waits = none_offered choices alt.Go (none_if_waiting choices (wait_at shared others next) waits)
+  waiting_blocked next status.Running choices goes alive waits = none_offered choices alt.Go (none_if_waiting choices (wait_at shared environment next) waits)
   waiting_blocked next s choices goes alive waits =
-      false_from_ne_true (offers choices alt.Go) (λ offered. true≢false (sym waits ∙ waits_unless_goes shared others s alive ∙ ap not (goes offered)))
+      false_from_ne_true (offers choices alt.Go) (λ offered. true≢false (sym waits ∙ waits_unless_goes shared environment s alive ∙ ap not (goes offered)))
 
   -- one that has no choice waits
-  disabled_waits : (next : NextStatement) (s : Status) → (s ≡ status.Running → has_statement next ≡ true) → is_ended_status s ≡ false → is_enabled (choices_at body shared t others next s) ≡ false
-      → is_some (wait_by shared others (choices_at body shared t others next s) next s) ≡ true
+  disabled_waits : (next : NextStatement) (s : Status) → (s ≡ status.Running → has_statement next ≡ true) → is_ended_status s ≡ false → is_enabled (choices_at body shared t environment next s) ≡ false
+      → is_some (wait_by shared environment (choices_at body shared t environment next s) next s) ≡ true
   unfolding choices_at wait_by
   disabled_waits NoStatement status.Running has alive none = absurd (false≢true (has refl))
   disabled_waits (StatementIn frame s) status.Running has alive none =
-      ap (λ (b : Bool). is_some (if b then None else wait_at shared others (StatementIn frame s))) none
-      ∙ waits_at_blocked shared others frame s (true_from_ne_false (is_blocked s shared) (λ free. true≢false (sym (running_enabled body shared t others frame s free) ∙ none)))
-  disabled_waits next (status.AtPoint index) has alive none = suspended_waits shared others (status.AtPoint index) _ alive none
-  disabled_waits next (status.Joining id) has alive none = suspended_waits shared others (status.Joining id) _ alive none
-  disabled_waits next (status.InSem s) has alive none = suspended_waits shared others (status.InSem s) _ alive none
-  disabled_waits next (status.InWaitPid pid) has alive none = suspended_waits shared others (status.InWaitPid pid) _ alive none
-  disabled_waits next (status.Waiting c m) has alive none = waits_unless_goes shared others (status.Waiting c m) alive
-  disabled_waits next (status.Reacquire c m why) has alive none = suspended_waits shared others (status.Reacquire c m why) _ alive none
-  disabled_waits next status.Ending has alive none = absurd (true≢false (sym (ending_enabled body shared t others t.handlers) ∙ none))
+      ap (λ (b : Bool). is_some (if b then None else wait_at shared environment (StatementIn frame s))) none
+      ∙ waits_at_blocked shared environment frame s (true_from_ne_false (is_blocked s shared) (λ free. true≢false (sym (running_enabled body shared t environment frame s free) ∙ none)))
+  disabled_waits next (status.AtPoint index) has alive none = suspended_waits shared environment (status.AtPoint index) _ alive none
+  disabled_waits next (status.Joining id) has alive none = suspended_waits shared environment (status.Joining id) _ alive none
+  disabled_waits next (status.InSem s) has alive none = suspended_waits shared environment (status.InSem s) _ alive none
+  disabled_waits next (status.InWaitPid pid) has alive none = suspended_waits shared environment (status.InWaitPid pid) _ alive none
+  disabled_waits next (status.Waiting c m) has alive none = waits_unless_goes shared environment (status.Waiting c m) alive
+  disabled_waits next (status.Reacquire c m why) has alive none = suspended_waits shared environment (status.Reacquire c m why) _ alive none
+  disabled_waits next status.Ending has alive none = absurd (true≢false (sym (ending_enabled body shared t environment t.handlers) ∙ none))
   disabled_waits next (status.Ended v) has alive none = absurd (true≢false alive)
   disabled_waits next _ has alive none = absurd (true≢false none)
 
@@ -132,12 +132,12 @@ blocked_threads_wait script config entries after l is among =
     let p : Process = listed.process in
     let t : Thread = listed.thread in
     let made : made_process p.pid w ≡ Some p = process_is_made p.pid t.id w p pids.distinct listed.live in
-    let live : IsLive p t.id t = live_thread t.id p t (ids_of_made config.slots w pids p.pid p made).distinct listed.holds in
+    let live : HasValidId p t.id t = with_valid_id t.id p t (ids_of_made config.slots w pids p.pid p made).distinct listed.holds in
     let kept = (every_state_is_kept script config entries after is).threads p.pid p made t.id t live.found live.here in
     let body : List Stmt = body_at script t.frames in
-    let others : Others = others_of config.slots w p t.id in
+    let environment : Environment = environment_of config.slots w p t.id in
     let next : NextStatement = next_of script t.frames in
     subst IsBlockedIfWaiting listed.same (record {
-      blocked = waiting_blocked body p.shared t others next t.status (choices_of script config w p t) (λ offered. may_go_on (offered_of body p.shared t others alt.Go next t.status offered) refl) listed.unended;
-      waits = disabled_waits body p.shared t others next t.status (λ runs. runs_at_statement script t.frames (kept.frames ∙ ap has_no_frame runs) kept.places) listed.unended;
+      blocked = waiting_blocked body p.shared t environment next t.status (choices_of script config w p t) (λ offered. may_go_on (offered_of body p.shared t environment alt.Go next t.status offered) refl) listed.unended;
+      waits = disabled_waits body p.shared t environment next t.status (λ runs. runs_at_statement script t.frames (kept.frames ∙ ap has_no_frame runs) kept.places) listed.unended;
     })

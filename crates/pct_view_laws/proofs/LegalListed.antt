@@ -1,7 +1,7 @@
 -- The entries that are listed of a state are the legal ones with worker 1.
 use Rattle.pct_names.proofs.Names.{[], Alt, and_parts, ap, arith, body_at, choices_of, Config, Contains, Contains-from_any, Entry}
-use Rattle.pct_names.proofs.Names.{false≢true, find, has_ended, holds_slot, if◌then◌else◌, is_live_process, is_live_thread, is_none, Legal}
-use Rattle.pct_names.proofs.Names.{List, list_any_at, map, nat_eq, next_of, None, not, offers, Option, others_of, Process, refl}
+use Rattle.pct_names.proofs.Names.{environment_of, false≢true, find, has_ended, has_valid_id, holds_slot, if◌then◌else◌, is_live_process}
+use Rattle.pct_names.proofs.Names.{is_none, Legal, List, list_any_at, map, nat_eq, next_of, None, not, offers, Option, Process, refl}
 use Rattle.pct_names.proofs.Names.{same_choice, Script, Some, subst, sym, Thread, true, Why, with_id, World, ℕ, ◌∙◌, ◌≡◌}
 use Rattle.std.proofs.Common.{eqb-true, eq-eqb}
 use Rattle.pct_model.specs.declared.schedule.Alt.TheVariants as alt
@@ -67,7 +67,7 @@ module _ (script : Script) (config : Config) (w : World) (pids : HavePids config
       let t : Thread = legal.thread in
       let l : ListedThread = listed_of script config w p t in
       let live : (nat_eq p.pid e.pid ≡ true) × (not (has_ended p) ≡ true) = and_parts (nat_eq p.pid e.pid) (not (has_ended p)) (found_passes (is_live_process e.pid) w.processes p legal.live) in
-      let holds : (nat_eq t.id e.tid ≡ true) × (holds_slot t ≡ true) = and_parts (nat_eq t.id e.tid) (holds_slot t) (found_passes (is_live_thread e.tid) p.threads t legal.holds) in
+      let holds : (nat_eq t.id e.tid ≡ true) × (holds_slot t ≡ true) = and_parts (nat_eq t.id e.tid) (holds_slot t) (found_passes (has_valid_id e.tid) p.threads t legal.holds) in
       let pid : p.pid ≡ e.pid = eqb-true p.pid e.pid live.0 in
       let tid : t.id ≡ e.tid = eqb-true t.id e.tid holds.0 in
       let listed : IsListed script config w l = record {
@@ -76,7 +76,7 @@ module _ (script : Script) (config : Config) (w : World) (pids : HavePids config
         same = refl;
         live = subst (λ (n : ℕ). find (is_live_process n) w.processes ≡ Some p) (sym pid) legal.live;
         holds = subst (λ (n : ℕ). with_id n p.threads ≡ Some t) (sym tid) legal.holds;
-        unended = offered_alive (offered_of (body_at script t.frames) p.shared t (others_of config.slots w p t.id) e.alt (next_of script t.frames) t.status legal.offered);
+        unended = offered_alive (offered_of (body_at script t.frames) p.shared t (environment_of config.slots w p t.id) e.alt (next_of script t.frames) t.status legal.offered);
       } in
       let same : entry_by l e.alt ≡ e = λ i. record { worker = sym first i; pid = pid i; tid = tid i; alt = e.alt } in
       joined_contained (entries_of w) (listed_threads script config w) l e (is_listed script config w l pids.some listed)

@@ -1,10 +1,10 @@
 -- What is listed of a state depends only on what is kept of it.
-use Rattle.pct_names.proofs.Names.{◌<◌, [], ap, body_at, Bool, by_slot, choices_at, cond, Config, false, filter, flat_map, flat_map-map}
-use Rattle.pct_names.proofs.Names.{is_some, List, map, next_of, None, not, Option, option_map, Others, Process, ProcessEnd, refl, Script}
-use Rattle.pct_names.proofs.Names.{Some, sym, Thread, true, was_reaped, World, ◌∙◌, ◌∷◌, ◌≡◌}
+use Rattle.pct_names.proofs.Names.{◌<◌, [], ap, body_at, Bool, by_slot, choices_at, cond, Config, Environment, false, filter, flat_map}
+use Rattle.pct_names.proofs.Names.{flat_map-map, is_some, List, map, next_of, None, not, Option, option_map, Process, ProcessEnd, refl}
+use Rattle.pct_names.proofs.Names.{Script, Some, sym, Thread, true, was_reaped, World, ◌∙◌, ◌∷◌, ◌≡◌}
 use Rattle.std.proofs.Math.Path.{fun_ext}
 use Rattle.pct_engine_laws.specs.Seen.{SeenSlot, SeenProcess, seen_process, seen, family_in}
-use Rattle.pct_engine_laws.proofs.AnswerSeen.{threads_seen, others_seen}
+use Rattle.pct_engine_laws.proofs.AnswerSeen.{threads_seen, environment_seen}
 use Rattle.pct_engine_laws.proofs.ListFacts.{flat_map_agree, flat_map-filter, flat_map-flat_map, map-filter}
 use Rattle.pct_view_laws.specs.Listed.{ListedThread, is_unended, listed_of, unended_of, listed_threads}
 use Rattle.pct_view_laws.specs.SeenViews.{listed_in, listed_process, listed_seen}
@@ -31,12 +31,12 @@ none_after_end f (Some end) threads = cond_same (not end.reaped) []
 -- a thread of a process, as it is listed
 listed_thread_seen : (script : Script) (config : Config) (w : World) (p : Process) (t : Thread) → 0 < config.slots → listed_of script config w p t ≡ listed_in script config.slots (family_in (seen config.slots w) p.pid) (seen_process config.slots p) t
 listed_thread_seen script config w p t some =
-    ap (λ (others : Others). record {
+    ap (λ (environment : Environment). record {
       pid = p.pid;
       thread = t;
-      choices = choices_at (body_at script t.frames) p.shared t others (next_of script t.frames) t.status;
-      wait = wait_by p.shared others (choices_at (body_at script t.frames) p.shared t others (next_of script t.frames) t.status) (next_of script t.frames) t.status;
-    }) (others_seen config.slots t.id w p some)
+      choices = choices_at (body_at script t.frames) p.shared t environment (next_of script t.frames) t.status;
+      wait = wait_by p.shared environment (choices_at (body_at script t.frames) p.shared t environment (next_of script t.frames) t.status) (next_of script t.frames) t.status;
+    }) (environment_seen config.slots t.id w p some)
 
 -- the threads of a process that are listed
 listed_of_process : (script : Script) (config : Config) (w : World) (p : Process) → 0 < config.slots → cond (not (was_reaped p.ended)) (listed_process script config.slots (family_in (seen config.slots w) p.pid) (seen_process config.slots p)) [] ≡ map (listed_of script config w p) (unended_of config p)

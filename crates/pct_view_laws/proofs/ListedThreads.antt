@@ -1,6 +1,6 @@
 -- The threads that are listed of a state: those that hold a slot and have not ended, of the processes that have not ended.
 use Rattle.pct_names.proofs.Names.{◌&&◌, ◌<◌, [], and_from, and_parts, ap, arith, Bool, by_slot, cond, Config, Contains, false, filter}
-use Rattle.pct_names.proofs.Names.{find, has_ended, holds_slot, is_ended_status, is_live_process, is_live_thread, is_on, List, map, nat_eq}
+use Rattle.pct_names.proofs.Names.{find, has_ended, has_valid_id, holds_slot, is_ended_status, is_live_process, is_on, List, map, nat_eq}
 use Rattle.pct_names.proofs.Names.{not, not-true, Process, range_with_len, refl, Script, slot_of, Some, subst, sym, Thread, true, with_id}
 use Rattle.pct_names.proofs.Names.{World, ℕ, ◌≡◌}
 use Rattle.std.proofs.Common.{eq-eqb}
@@ -10,7 +10,8 @@ use Rattle.pct_thread_invariants.proofs.lift.KeyedLists.{found_passes}
 use Rattle.pct_thread_invariants.proofs.lift.MadeThreads.{process_is_made}
 use Rattle.pct_thread_invariants.proofs.lift.ProcessIds.{HavePids, ids_of_made}
 use Rattle.pct_thread_invariants.proofs.lift.ThreadIds.{HaveIds}
-use Rattle.pct_view_laws.proofs.ContainedItems.{contained_found, found_contained, index_contained, joined_contained, joined_was, mapped_contained, mapped_was, passed_contained, passed_was}
+use Rattle.pct_view_laws.proofs.ContainedItems.{contained_found, found_contained, index_contained, joined_contained, joined_was}
+use Rattle.pct_view_laws.proofs.ContainedItems.{mapped_contained, mapped_was, passed_contained, passed_was}
 
 -- a thread of a process, neither of which has ended, that holds its slot
 record IsUnended (p : Process) (t : Thread) : Type 0 where
@@ -81,8 +82,8 @@ is_listed script config w l some listed =
     let p : Process = listed.process in
     let t : Thread = listed.thread in
     let live : (nat_eq p.pid p.pid ≡ true) × (not (has_ended p) ≡ true) = and_parts (nat_eq p.pid p.pid) (not (has_ended p)) (found_passes (is_live_process p.pid) w.processes p listed.live) in
-    let holds : (nat_eq t.id t.id ≡ true) × (holds_slot t ≡ true) = and_parts (nat_eq t.id t.id) (holds_slot t) (found_passes (is_live_thread t.id) p.threads t listed.holds) in
-    let unended : Contains (unended_of config p) t = is_unended_of config p t some (record { live = not-true (has_ended p) live.1; among = found_contained (is_live_thread t.id) p.threads t listed.holds; holds = holds.1; unended = listed.unended }) in
+    let holds : (nat_eq t.id t.id ≡ true) × (holds_slot t ≡ true) = and_parts (nat_eq t.id t.id) (holds_slot t) (found_passes (has_valid_id t.id) p.threads t listed.holds) in
+    let unended : Contains (unended_of config p) t = is_unended_of config p t some (record { live = not-true (has_ended p) live.1; among = found_contained (has_valid_id t.id) p.threads t listed.holds; holds = holds.1; unended = listed.unended }) in
     subst (Contains (listed_threads script config w)) listed.same
     (joined_contained (λ p. map (listed_of script config w p) (unended_of config p)) w.processes p (listed_of script config w p t) (found_contained (is_live_process p.pid) w.processes p listed.live)
     (mapped_contained (listed_of script config w p) (unended_of config p) t unended))

@@ -8,7 +8,7 @@ use Rattle.pct_model.specs.declared.script.Script.{Script}
 use Rattle.pct_model.specs.Actions.{has_ended}
 use Rattle.pct_model.specs.ChoiceTable.{choices_of, is_enabled, offers}
 use Rattle.pct_model.specs.NextStatement.{next_of}
-use Rattle.pct_model.specs.OtherThreads.{others_of}
+use Rattle.pct_model.specs.Environment.{environment_of}
 use Rattle.pct_model.specs.Run.{Run, run}
 use Rattle.pct_model.specs.Step.{Legal}
 use Rattle.pct_model.specs.ThreadSlots.{by_slot, is_ended_status}
@@ -25,7 +25,7 @@ pub record ListedThread : Type 0 where
 
 -- what a thread of a process waits for
 abbrev pub wait_of : Script → Config → World → Process → Thread → Option Wait
-wait_of script config w p t = wait_by p.shared (others_of config.slots w p t.id) (choices_of script config w p t) (next_of script t.frames) t.status
+wait_of script config w p t = wait_by p.shared (environment_of config.slots w p t.id) (choices_of script config w p t) (next_of script t.frames) t.status
 
 -- a thread of a process, as it is listed
 abbrev pub listed_of : Script → Config → World → Process → Thread → ListedThread

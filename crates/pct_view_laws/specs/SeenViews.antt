@@ -7,7 +7,7 @@ use Rattle.pct_model.specs.NextStatement.{next_of}
 use Rattle.pct_model.specs.OtherProcesses.{Family}
 use Rattle.pct_model.specs.World.{Thread, World}
 use Rattle.pct_engine_laws.specs.Seen.{SeenSlot, SeenProcess, Seen, seen, family_in, is_live_seen}
-use Rattle.pct_engine_laws.specs.SeenSteps.{choices_in, others_in, thread_with}
+use Rattle.pct_engine_laws.specs.SeenSteps.{choices_in, environment_in, thread_with}
 use Rattle.pct_view_laws.specs.declared.position.StepStart.{StepStart}
 use Rattle.pct_view_laws.specs.Listed.{ListedThread, is_unended, listed_threads}
 use Rattle.pct_view_laws.specs.TracedSteps.{start_of, start_in}
@@ -20,7 +20,7 @@ module _ (script : Script) (slots : ℕ) (family : Family) (p : SeenProcess) whe
     pid = p.pid;
     thread = t;
     choices = choices_in script slots family p t;
-    wait = wait_by p.shared (others_in slots family p.slots t.id) (choices_in script slots family p t) (next_of script t.frames) t.status;
+    wait = wait_by p.shared (environment_in slots family p.slots t.id) (choices_in script slots family p t) (next_of script t.frames) t.status;
   }
 
   -- the threads on a slot of the process, which has not ended, that have not ended

@@ -5,17 +5,17 @@ use Rattle.pct_model.specs.declared.schedule.Alt.{Alt}
 use Rattle.pct_model.specs.declared.state.Status.{Status}
 use Rattle.pct_model.specs.declared.state.Status.TheVariants as status
 use Rattle.pct_model.specs.declared.statement.Stmt.TheVariants as statement
-use Rattle.pct_model.specs.CancelCalls.{may_return}
+use Rattle.pct_model.specs.CancelCalls.{may_pass_point}
 use Rattle.pct_model.specs.ChoiceTable.{is_enabled}
 use Rattle.pct_model.specs.MutexCalls.{is_free_mutex}
 use Rattle.pct_model.specs.NextStatement.{NextStatement, StatementIn}
 use Rattle.pct_model.specs.OtherProcesses.{is_running_child}
-use Rattle.pct_model.specs.OtherThreads.{Others, is_ended_thread}
+use Rattle.pct_model.specs.Environment.{Environment, is_ended_thread}
 use Rattle.pct_model.specs.World.{SharedState}
 use Rattle.pct_view_laws.specs.declared.wait.Wait.{Wait}
 use Rattle.pct_view_laws.specs.declared.wait.Wait.TheVariants as wait
 
-module _ (shared : SharedState) (others : Others) where
+module _ (shared : SharedState) (environment : Environment) where
   -- a thread that needs mutex m waits for it while it has an owner. The owner may be the thread itself, a thread that has ended, or one that
   -- the process did not inherit (XSH pthread_mutex_lock, fork)
   abbrev pub mutex_wait : ℕ → Option Wait
@@ -23,13 +23,13 @@ module _ (shared : SharedState) (others : Others) where
 
   -- what a thread waits for that is not running, by its status
   unfoldable pub wait_in : Status → Option Wait
-  wait_in (status.AtPoint index) = if may_return index then None else Some wait.Signal
+  wait_in (status.AtPoint index) = if may_pass_point index then None else Some wait.Signal
   -- XSH pthread_join: the target has not terminated
-  wait_in (status.Joining id) = if is_ended_thread id others then None else Some (wait.Thread id)
+  wait_in (status.Joining id) = if is_ended_thread id environment then None else Some (wait.Thread id)
   -- XSH sem_wait: the count is 0
   wait_in (status.InSem s) = if nat_lt 0 (slice_index shared.counts s) then None else Some (wait.Semaphore s)
   -- XSH waitpid: the child has not ended
-  wait_in (status.InWaitPid pid) = if is_running_child pid others.family then Some (wait.Process pid) else None
+  wait_in (status.InWaitPid pid) = if is_running_child pid environment.family then Some (wait.Process pid) else None
   -- XSH pthread_cond_wait: until a signal or a broadcast, and after it until the mutex has no owner
   wait_in (status.Waiting c m) = Some (wait.Condition c)
   wait_in (status.Reacquire c m why) = mutex_wait m

@@ -1,5 +1,6 @@
 -- What a thread waits for, by its status and its next statement.
-use Rattle.pct_names.proofs.Names.{Bool, cond, false, Frame, None, not, Others, refl, SharedState, Some, StatementIn, Stmt, true, ℕ, ◌≡◌}
+use Rattle.pct_names.proofs.Names.{Bool, cond, Environment, false, Frame, None, not, refl, SharedState, Some, StatementIn, Stmt, true, ℕ}
+use Rattle.pct_names.proofs.Names.{◌≡◌}
 use Rattle.pct_model.specs.declared.statement.Stmt.TheVariants as statement
 use Rattle.pct_view_laws.specs.declared.wait.Wait.{Wait}
 use Rattle.pct_view_laws.specs.Waits.{wait_at}
@@ -10,7 +11,7 @@ over_unless true w = refl
 over_unless false w = refl
 
 -- a thread without a choice waits for nothing at another statement than pthread_mutex_lock
-pub nothing_elsewhere : (shared : SharedState) (others : Others) (frame : Frame) (s : Stmt) → ((m : ℕ) → s ≡ statement.Lock m → ⊥) → wait_at shared others (StatementIn frame s) ≡ None
+pub nothing_elsewhere : (shared : SharedState) (environment : Environment) (frame : Frame) (s : Stmt) → ((m : ℕ) → s ≡ statement.Lock m → ⊥) → wait_at shared environment (StatementIn frame s) ≡ None
 unfolding wait_at
-nothing_elsewhere shared others frame (statement.Lock m) other = absurd (other m refl)
-nothing_elsewhere shared others frame _ other = refl
+nothing_elsewhere shared environment frame (statement.Lock m) other = absurd (other m refl)
+nothing_elsewhere shared environment frame _ other = refl

@@ -1,9 +1,9 @@
 //! What a thread waits for.
 
 ghost use Rattle.std.specs.Prelude.{◌≡◌, if◌then◌else◌, true, is_some, length, Some, None};
-ghost use Rattle.pct_engine_laws.specs.SeenSteps.{choices_in, others_in};
+ghost use Rattle.pct_engine_laws.specs.SeenSteps.{choices_in, environment_in};
 ghost use Rattle.pct_model.specs.NextStatement.{next_of};
-ghost use Rattle.pct_model.specs.OtherThreads.{Others};
+ghost use Rattle.pct_model.specs.Environment.{Environment};
 ghost use Rattle.pct_model.specs.World.{Thread};
 ghost use Rattle.pct_process.specs.FamilyViews.{other_processes};
 ghost use Rattle.pct_process.specs.ProcessViews.{thread_on_slot};
@@ -14,7 +14,8 @@ ghost use Rattle.pct_view_laws.specs.Waits.{mutex_wait, wait_at, wait_by};
 use pct_model::{Status, Stmt};
 use pct_process::ProcessState;
 use pct_transitions::{
-    At, Surroundings, count_in, has_choice, has_ended, is_unowned, may_return, next_on, record_of,
+    At, Surroundings, count_in, has_choice, has_ended, is_unowned, may_pass_point, next_on,
+    record_of,
 };
 use pct_view_laws::Wait;
 
@@ -22,7 +23,7 @@ use pct_view_laws::Wait;
 pub(crate) fn wait_on(around: Surroundings, state: &ProcessState, slot: u32) -> Option<Wait>
     requires { is_some (thread_on_slot state.now.slots slot) ≡ true }
     ensures { (t : Thread) → thread_on_slot state.now.slots slot ≡ Some t
-        → result ≡ wait_by state.now.shared (others_in (length state.now.slots) (other_processes around.entry.family) state.now.slots t.id)
+        → result ≡ wait_by state.now.shared (environment_in (length state.now.slots) (other_processes around.entry.family) state.now.slots t.id)
         (choices_in around.entry.program.now.script (length state.now.slots) (other_processes around.entry.family) (with_data state.now) t) (next_of around.entry.program.now.script t.frames) t.status }
 {
     match record_of(state, slot).status {
@@ -33,7 +34,7 @@ pub(crate) fn wait_on(around: Surroundings, state: &ProcessState, slot: u32) -> 
                 wait_at(state, next_on(around.program, state, slot))
             }
         }
-        Status::AtPoint(index) => wait_unless(may_return(index), Wait::Signal),
+        Status::AtPoint(index) => wait_unless(may_pass_point(index), Wait::Signal),
         Status::Joining(id) => wait_unless(has_ended(state, id), Wait::Thread(id)),
         Status::InSem(sem) => wait_unless(count_in(state, sem) > 0, Wait::Semaphore(sem)),
         Status::InWaitPid(pid) => {
@@ -54,7 +55,7 @@ fn wait_unless(over: bool, wait: Wait) -> Option<Wait>
 
 // What a running thread without a choice waits for at its next statement.
 fn wait_at(state: &ProcessState, next: Option<At>) -> Option<Wait>
-    ensures { (others : Others) → result ≡ wait_at state.now.shared others (next_at next.entry) }
+    ensures { (environment : Environment) → result ≡ wait_at state.now.shared environment (next_at next.entry) }
 {
     match next {
         None => None,
@@ -67,7 +68,7 @@ fn wait_at(state: &ProcessState, next: Option<At>) -> Option<Wait>
 
 // What a thread that needs the mutex waits for.
 fn mutex_wait(state: &ProcessState, mutex: u32) -> Option<Wait>
-    ensures { (others : Others) → result ≡ mutex_wait state.now.shared others mutex }
+    ensures { (environment : Environment) → result ≡ mutex_wait state.now.shared environment mutex }
 {
     if is_unowned(state, mutex) {
         None

@@ -1,7 +1,7 @@
 -- A signal, one that is handed on, and a broadcast name those that wait: of signals and broadcasts by the law of statements.
-use Rattle.pct_names.proofs.Names.{◌&&◌, [], and_from, and_parts, ap, Bool, cond, Config, count_by, Entry, false, length, List, list_all}
-use Rattle.pct_names.proofs.Names.{list_any, nat_eq, NextStatement, not, Others, Process, refl, Run, run, Script, SharedState, Some, Status}
-use Rattle.pct_names.proofs.Names.{Stmt, subst, sym, Thread, Transition, true, Waiter, What, ◌||◌, ℕ, ◌∙◌, ◌∷◌, ◌≡◌}
+use Rattle.pct_names.proofs.Names.{◌&&◌, [], and_from, and_parts, ap, Bool, cond, Config, count_by, Entry, Environment, false, length, List}
+use Rattle.pct_names.proofs.Names.{list_all, list_any, nat_eq, NextStatement, not, Process, refl, Run, run, Script, SharedState, Some}
+use Rattle.pct_names.proofs.Names.{Status, Stmt, subst, sym, Thread, Transition, true, Waiter, What, ◌||◌, ℕ, ◌∙◌, ◌∷◌, ◌≡◌}
 use Rattle.std.proofs.Common.{true≢false}
 use Rattle.pct_model.specs.declared.event.What.TheVariants as what
 use Rattle.pct_laws.specs.CancelLaw.{is_running, acts_or_stops}
@@ -37,13 +37,13 @@ module _ (slots : ℕ) (threads : List Thread) where
   abbrev IsSaid : List Stmt → SharedState → Thread → NextStatement → Status → List What → Type 0
   IsSaid body shared t next s events = (not (is_running s) || acts_or_stops events || asked_at slots body shared threads t next events) ≡ true
 
-  case_named : {passes : ℕ} {body : List Stmt} {shared : SharedState} {t : Thread} {others : Others} {next : NextStatement} {s : Status} {o : Transition} → TransitionCase passes body shared t others true next s o
-      → ((c id : ℕ) → list_any (λ (w : Waiter). nat_eq id w.id) (others.waiters c) ≡ true → waits_with_id c id threads ≡ true) → IsSaid body shared t next s o.events → list_all (names_waiters threads) o.events ≡ true
+  case_named : {passes : ℕ} {body : List Stmt} {shared : SharedState} {t : Thread} {environment : Environment} {next : NextStatement} {s : Status} {o : Transition} → TransitionCase passes body shared t environment true next s o
+      → ((c id : ℕ) → list_any (λ (w : Waiter). nat_eq id w.id) (environment.waiters c) ≡ true → waits_with_id c id threads ≡ true) → IsSaid body shared t next s o.events → list_all (names_waiters threads) o.events ≡ true
   case_named (signal_handed_on next c m u asked among) waits said = and_from (waits_with_id c u threads) true (waits c u (among refl)) refl
   case_named (signal_sent frame c u among) waits said = and_from (names_waiters threads (what.Signalled c u)) true (unblocks_waiter c u threads (and_parts (nat_eq c c) (unblocks c u threads) said).1) refl
   case_named (signal_lost frame c) waits said = and_from (names_waiters threads (what.Signalled c 0)) true (unblocks_waiter c 0 threads (and_parts (nat_eq c c) (unblocks c 0 threads) said).1) refl
-  case_named {others = others} (broadcast_sent frame c) waits said =
-      let n : ℕ = length (others.waiters c) in
+  case_named {environment = environment} (broadcast_sent frame c) waits said =
+      let n : ℕ = length (environment.waiters c) in
       and_from (names_waiters threads (what.BroadcastTo c n)) true (subst (λ (is : Thread → Bool). nat_eq n (count_by is threads) ≡ true) (same_waiter c) (and_parts (nat_eq c c) (nat_eq n (count_by (waits_on c) threads)) said).1) refl
   case_named (fork_handler_called next at call is) waits said = of_each_phase (λ (w : What). list_all (names_waiters threads) (w ∷ []) ≡ true) call.func refl refl refl at.phase
   case_named _ waits said = refl

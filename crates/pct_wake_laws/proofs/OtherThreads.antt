@@ -1,10 +1,10 @@
 -- What a step leaves of another thread of its process: it is unblocked by a signal or a broadcast, and changed by a request, a detach, a
 -- join and the deletion of a key.
-use Rattle.pct_names.proofs.Names.{◌&&◌, [], and_from, and_left, and_parts, ap, Bool, Cause, cond, Config, Entry, eqb-false, false}
-use Rattle.pct_names.proofs.Names.{false≢true, holds_slot, is_ended_status, is_live_thread, is_waiting_on, IsSomeAnd, key_place, List}
-use Rattle.pct_names.proofs.Names.{list_any, moved, named_after, nat_eq, NextStatement, none-some, not, Option, Others, others_of, Process}
-use Rattle.pct_names.proofs.Names.{refl, Run, run, same_Some, Script, set, SharedState, slice_get, Some, Status, Stmt, subst, suc, sym}
-use Rattle.pct_names.proofs.Names.{Thread, thread_moved, thread_with, Transition, transition_by, true, value_of, Waiter, What, with_id}
+use Rattle.pct_names.proofs.Names.{◌&&◌, [], and_from, and_left, and_parts, ap, Bool, Cause, cond, Config, Entry, Environment}
+use Rattle.pct_names.proofs.Names.{environment_of, eqb-false, false, false≢true, has_valid_id, holds_slot, is_ended_status, is_waiting_on}
+use Rattle.pct_names.proofs.Names.{IsSomeAnd, key_place, List, list_any, moved, named_after, nat_eq, NextStatement, none-some, not, Option}
+use Rattle.pct_names.proofs.Names.{Process, refl, Run, run, same_Some, Script, set, SharedState, slice_get, Some, Status, Stmt, subst, suc}
+use Rattle.pct_names.proofs.Names.{sym, Thread, thread_moved, thread_with, Transition, transition_by, true, value_of, Waiter, What, with_id}
 use Rattle.pct_names.proofs.Names.{without_value, zero, ◌||◌, ℕ, ◌∙◌, ◌∷◌, ◌≡◌, ◌≢◌}
 use Rattle.std.proofs.Common.{ap₂, eq-eqb, eqb-true, ne_eqb}
 use Rattle.std.proofs.Math.Bool.{or-false}
@@ -19,7 +19,7 @@ use Rattle.pct_transition_cases.proofs.TransitionCases.{signal_sent, signal_lost
 use Rattle.pct_thread_invariants.proofs.lift.EveryProcess.{moves_of_run}
 use Rattle.pct_thread_invariants.proofs.lift.HandlerEvents.{of_each_phase}
 use Rattle.pct_thread_invariants.proofs.lift.KeyedLists.{AreDistinct, found_passes}
-use Rattle.pct_thread_invariants.proofs.lift.MadeThreads.{IsLive, live_thread}
+use Rattle.pct_thread_invariants.proofs.lift.MadeThreads.{HasValidId, with_valid_id}
 use Rattle.pct_thread_invariants.proofs.lift.MovedThreads.{EveryStep, step_of, case_of_step, every_step}
 use Rattle.pct_thread_invariants.proofs.lift.TakenSteps.{IsTaken}
 use Rattle.pct_thread_invariants.proofs.lift.ThreadIds.{ids_of}
@@ -34,7 +34,7 @@ same_unblocked why (status.Waiting c m) = refl
 same_unblocked why _ = refl
 
 -- an action that names threads is all by which a transition changes another thread
-by_name_alone : (tid : ℕ) (o : Transition) (u : Thread) → is_live_thread tid u ≡ false → thread_moved tid o u ≡ named_after o.named u
+by_name_alone : (tid : ℕ) (o : Transition) (u : Thread) → has_valid_id tid u ≡ false → thread_moved tid o u ≡ named_after o.named u
 by_name_alone tid o u other = ap (λ (live : Bool). named_after o.named (cond live (moved o u) u)) other
 
 -- ---- lists
@@ -131,17 +131,17 @@ module _ (tid : ℕ) (u : Thread) where
   }
 
   -- the thread after the transition of another: `named` is of the threads that the transition names, `awaited` of those that wait
-  module _ {passes : ℕ} {body : List Stmt} {shared : SharedState} {t : Thread} {others : Others}
-      (named : (id : ℕ) (target : Thread) → others.named id ≡ Some target → IsNamed id (is_live_thread id u))
-      (awaited : (c id : ℕ) → list_any (λ (w : Waiter). nat_eq id w.id) (others.waiters c) ≡ true → IsNamed id (is_live_thread id u))
+  module _ {passes : ℕ} {body : List Stmt} {shared : SharedState} {t : Thread} {environment : Environment}
+      (named : (id : ℕ) (target : Thread) → environment.named id ≡ Some target → IsNamed id (has_valid_id id u))
+      (awaited : (c id : ℕ) → list_any (λ (w : Waiter). nat_eq id w.id) (environment.waiters c) ≡ true → IsNamed id (has_valid_id id u))
       (numbered : nat_eq 0 tid ≡ false) where
-    case_keeps : {next : NextStatement} {s : Status} {o : Transition} → TransitionCase passes body shared t others true next s o → Keeps o.events (named_after o.named u)
+    case_keeps : {next : NextStatement} {s : Status} {o : Transition} → TransitionCase passes body shared t environment true next s o → Keeps o.events (named_after o.named u)
     unfolding named_after
-    case_keeps (join_ended frame operand d id v target is ended) = joined id v (is_live_thread id u) (named id target is)
-    case_keeps (thread_detached frame id target is joinable other) = detached (value_of shared.globals frame id) (is_live_thread (value_of shared.globals frame id) u) (named _ target is)
-    case_keeps (request_sent frame id target is) = requested (value_of shared.globals frame id) (is_live_thread (value_of shared.globals frame id) u) u.ended (named _ target is) refl
-    case_keeps (signal_handed_on next c m id asked among) = handed_on c id (is_live_thread id u) (awaited c id (among refl))
-    case_keeps (signal_sent frame c id among) = signalled c id (is_live_thread id u) (awaited c id (among refl))
+    case_keeps (join_ended frame operand d id v target is ended) = joined id v (has_valid_id id u) (named id target is)
+    case_keeps (thread_detached frame id target is joinable other) = detached (value_of shared.globals frame id) (has_valid_id (value_of shared.globals frame id) u) (named _ target is)
+    case_keeps (request_sent frame id target is) = requested (value_of shared.globals frame id) (has_valid_id (value_of shared.globals frame id) u) u.ended (named _ target is) refl
+    case_keeps (signal_handed_on next c m id asked among) = handed_on c id (has_valid_id id u) (awaited c id (among refl))
+    case_keeps (signal_sent frame c id among) = signalled c id (has_valid_id id u) (awaited c id (among refl))
     case_keeps (signal_lost frame c) = signalled c 0 false (sym numbered)
     case_keeps (broadcast_sent frame c) = broadcast c _ (is_waiting_on c u.status) (same_blocked c u.status)
     case_keeps (fork_handler_called next at call is) =
@@ -160,7 +160,7 @@ waiting_alive c (status.Ended v) waits = absurd (false≢true waits)
 waiting_alive c _ waits = refl
 
 -- so it can be looked up by its id
-waiter_is_live : (c id : ℕ) (t : Thread) → waits_on c t && nat_eq id t.id ≡ true → is_live_thread id t ≡ true
+waiter_is_live : (c id : ℕ) (t : Thread) → waits_on c t && nat_eq id t.id ≡ true → has_valid_id id t ≡ true
 waiter_is_live c id t both =
     let parts : (waits_on c t ≡ true) × (nat_eq id t.id ≡ true) = and_parts (waits_on c t) (nat_eq id t.id) both in
     let waits : (not t.gone ≡ true) × (is_waiting_on c t.status ≡ true) = and_parts (not t.gone) (is_waiting_on c t.status) parts.0 in
@@ -168,31 +168,31 @@ waiter_is_live c id t both =
     (and_from (not t.gone) _ waits.0 (ap (λ (b : Bool). not (b && (t.joined || t.detached))) (waiting_alive c t.status waits.1)))
 
 module _ (tid : ℕ) (p : Process) (distinct : AreDistinct (ids_of p.threads)) (u : Thread) (found : thread_with tid p ≡ Some u) where
-  is_named : (id : ℕ) (target : Thread) → with_id id p.threads ≡ Some target → is_live_thread id u ≡ nat_eq id tid
+  is_named : (id : ℕ) (target : Thread) → with_id id p.threads ≡ Some target → has_valid_id id u ≡ nat_eq id tid
   is_named id target is = by (nat_eq id tid) refl
     where
       named : u.id ≡ tid
       named = eqb-true u.id tid (found_passes (λ (x : Thread). nat_eq x.id tid) p.threads u found)
 
-      by : (same : Bool) → nat_eq id tid ≡ same → is_live_thread id u ≡ same
+      by : (same : Bool) → nat_eq id tid ≡ same → has_valid_id id u ≡ same
       by true same =
-          let it : IsLive p id target = live_thread id p target distinct is in
-          ap (is_live_thread id) (same_Some u target (sym found ∙ ap (λ (n : ℕ). thread_with n p) (sym (eqb-true id tid same)) ∙ it.found)) ∙ it.live
+          let it : HasValidId p id target = with_valid_id id p target distinct is in
+          ap (has_valid_id id) (same_Some u target (sym found ∙ ap (λ (n : ℕ). thread_with n p) (sym (eqb-true id tid same)) ∙ it.found)) ∙ it.valid
       by false differs = and_left (nat_eq u.id id) (holds_slot u) (ne_eqb u.id id (λ same. eqb-false id tid differs (sym same ∙ named)))
 
 -- ---- each step of a run
 
 module _ (script : Script) (config : Config) where
   others_of_step : (before : List Entry) (r : Run) → run script config before ≡ Some r → (e : Entry) (p : Process) (t : Thread) → IsTaken script config r.world e p t → KeepsOthers (step_of script config r p e t)
-  unfolding others_of
+  unfolding environment_of
   others_of_step before r is e p t taken tid u differs found here =
       let o : Transition = transition_by script config r.world p t e.alt in
       let moves : Moves script config r.world p e t = moves_of_run script config before r is e p t taken in
       let distinct : AreDistinct (ids_of p.threads) = moves.ids.distinct in
-      let still : is_live_thread e.tid u ≡ false = and_left (nat_eq u.id e.tid) (holds_slot u) (ne_eqb u.id e.tid (λ same. differs (sym (eqb-true u.id tid (found_passes (λ (x : Thread). nat_eq x.id tid) p.threads u found)) ∙ same))) in
+      let still : has_valid_id e.tid u ≡ false = and_left (nat_eq u.id e.tid) (holds_slot u) (ne_eqb u.id e.tid (λ same. differs (sym (eqb-true u.id tid (found_passes (λ (x : Thread). nat_eq x.id tid) p.threads u found)) ∙ same))) in
       let kept : KeepsOther o.events tid u (named_after o.named u) =
       case_keeps tid u (λ id target is_target. is_named tid p distinct u found id target is_target) (λ c id among.
-      let target = find_some (λ (x : Thread). waits_on c x && nat_eq id x.id) (is_live_thread id) (waiter_is_live c id) p.threads (waits_by_id config.slots c id p.threads moves.some among) in
+      let target = find_some (λ (x : Thread). waits_on c x && nat_eq id x.id) (has_valid_id id) (waiter_is_live c id) p.threads (waits_by_id config.slots c id p.threads moves.some among) in
       is_named tid p distinct u found id target.0 target.1)
       (has_number config.slots p.threads moves.ids moves.some tid (found_among (λ (x : Thread). x.id) tid p.threads u found)) (case_of_step script config r.world p e t moves) in
       by moves (subst (KeepsOther o.events tid u) (sym (by_name_alone e.tid o u still)) kept) (after script config r.world p e t moves tid)

@@ -1,11 +1,11 @@
 -- What a thread does in a condition wait: it waits by pthread_cond_wait alone, makes no step there but that it acts upon a request or
 -- acquires its mutex, and does not unblock itself.
 use Rattle.pct_names.proofs.Names.{◌&&◌, ◌++◌, [], acts_on_request, acts_or, Alt, and_from, body_at, Bool, Cause, choices_at, cond, Config}
-use Rattle.pct_names.proofs.Names.{Entry, false, false≢true, go_if, hands_on, is_deliverable, is_free_mutex, is_live_thread, is_none}
-use Rattle.pct_names.proofs.Names.{leaves_wait, List, list_any, moved, named_after, NamedAction, nat_eq, next_of, NextStatement, None}
-use Rattle.pct_names.proofs.Names.{NoStatement, not, offers, Option, or_left, Others, others_of, own_after, Process, reacquires, refl, Run}
-use Rattle.pct_names.proofs.Names.{run, Script, SharedState, Some, StatementIn, Status, Stmt, subst, sym, Thread, thread_at, Transition}
-use Rattle.pct_names.proofs.Names.{transition_at, transition_by, true, What, ◌||◌, ℕ, ◌∷◌, ◌≡◌}
+use Rattle.pct_names.proofs.Names.{Entry, Environment, environment_of, false, false≢true, go_if, hands_on, has_valid_id, is_deliverable}
+use Rattle.pct_names.proofs.Names.{is_free_mutex, is_none, leaves_wait, List, list_any, moved, named_after, NamedAction, nat_eq, next_of}
+use Rattle.pct_names.proofs.Names.{NextStatement, None, NoStatement, not, offers, Option, or_left, own_after, Process, reacquires, refl}
+use Rattle.pct_names.proofs.Names.{Run, run, Script, SharedState, Some, StatementIn, Status, Stmt, subst, sym, Thread, thread_at}
+use Rattle.pct_names.proofs.Names.{Transition, transition_at, transition_by, true, What, ◌||◌, ℕ, ◌∷◌, ◌≡◌}
 use Rattle.std.proofs.Common.{eq-eqb, true≢false}
 use Rattle.pct_model.specs.CondCalls as machine
 use Rattle.pct_model.specs.declared.event.What.TheVariants as what
@@ -25,7 +25,7 @@ use Rattle.pct_transition_cases.proofs.TransitionCases.{canceled_after_wait, sig
 use Rattle.pct_thread_invariants.proofs.ThreadsOfRun.{threads_kept}
 use Rattle.pct_thread_invariants.proofs.lift.ChangedThreads.{either_keeps}
 use Rattle.pct_thread_invariants.proofs.lift.EveryProcess.{moves_of_run, process_taken}
-use Rattle.pct_thread_invariants.proofs.lift.MadeThreads.{IsLive}
+use Rattle.pct_thread_invariants.proofs.lift.MadeThreads.{HasValidId}
 use Rattle.pct_thread_invariants.proofs.lift.MovedThreads.{EveryStep, step_of, case_of_step, every_step}
 use Rattle.pct_thread_invariants.proofs.lift.TakenSteps.{IsTaken}
 use Rattle.pct_thread_invariants.proofs.lift.ThreadsAfter.{Moves, mover}
@@ -59,9 +59,9 @@ acts_once true false n offered = false≢true offered
 acts_once false true n offered = false≢true offered
 acts_once false false n offered = false≢true offered
 
-module _ (passes : ℕ) (body : List Stmt) (shared : SharedState) (t : Thread) (others : Others) where
-  makes_event : (choice : Alt) (next : NextStatement) (s : Status) → IsSuspendedAt next s → offers (choices_at body shared t others next s) choice ≡ true → in_a_wait s ≡ true
-      → HasEvent (acts_or choice s (transition_at passes body shared t others choice next s))
+module _ (passes : ℕ) (body : List Stmt) (shared : SharedState) (t : Thread) (environment : Environment) where
+  makes_event : (choice : Alt) (next : NextStatement) (s : Status) → IsSuspendedAt next s → offers (choices_at body shared t environment next s) choice ≡ true → in_a_wait s ≡ true
+      → HasEvent (acts_or choice s (transition_at passes body shared t environment choice next s))
   unfolding choices_at transition_at acts_on_request leaves_wait
   makes_event (alt.Act n) next (status.Waiting c m) at offered waits = refl
   makes_event (alt.Act n) next (status.Reacquire c m cause.Signalled) at offered waits = acts_with_event n c m
@@ -69,7 +69,7 @@ module _ (passes : ℕ) (body : List Stmt) (shared : SharedState) (t : Thread) (
   makes_event (alt.Act n) next (status.Reacquire c m cause.Canceled) at offered waits = absurd (acts_once (is_free_mutex m shared) (is_deliverable t.state t.pending) n offered)
   makes_event choice NoStatement (status.Reacquire c m why) at offered waits = absurd (false≢true at)
   makes_event choice (StatementIn frame s) (status.Reacquire c m why) at offered waits = goes_on_with_event t.id c m why (StatementIn frame s) at
-  makes_event choice next (status.Waiting c m) at offered waits = absurd (false≢true (may_go_on (offered_of body shared t others choice next (status.Waiting c m) offered) refl))
+  makes_event choice next (status.Waiting c m) at offered waits = absurd (false≢true (may_go_on (offered_of body shared t environment choice next (status.Waiting c m) offered) refl))
   makes_event choice next _ at offered waits = absurd (false≢true waits)
 
 -- ---- the status after a step of its own
@@ -104,11 +104,11 @@ stays_unblocked why _ is = refl
 not_woken : (a : Option NamedAction) (t : Thread) → (is_none a || not (is_waiting t.status)) ≡ true → (named_after a t).status ≡ t.status
 unfolding named_after
 not_woken None t is = refl
-not_woken (Some (named_action.EndJoin id)) t is = either_keeps (λ (u : Thread). u.status) (is_live_thread id t) (record t { joined = true }) t t refl refl
-not_woken (Some (named_action.Request id)) t is = either_keeps (λ (u : Thread). u.status) (is_live_thread id t && not t.ended) (record t { pending = true }) t t refl refl
-not_woken (Some (named_action.Detach id)) t is = either_keeps (λ (u : Thread). u.status) (is_live_thread id t) (record t { detached = true }) t t refl refl
+not_woken (Some (named_action.EndJoin id)) t is = either_keeps (λ (u : Thread). u.status) (has_valid_id id t) (record t { joined = true }) t t refl refl
+not_woken (Some (named_action.Request id)) t is = either_keeps (λ (u : Thread). u.status) (has_valid_id id t && not t.ended) (record t { pending = true }) t t refl refl
+not_woken (Some (named_action.Detach id)) t is = either_keeps (λ (u : Thread). u.status) (has_valid_id id t) (record t { detached = true }) t t refl refl
 not_woken (Some (named_action.Wake id)) t is =
-    either_keeps (λ (u : Thread). u.status) (is_live_thread id t) (record t { status = machine.unblocked cause.Signalled t.status }) t t (stays_unblocked cause.Signalled t.status is) refl
+    either_keeps (λ (u : Thread). u.status) (has_valid_id id t) (record t { status = machine.unblocked cause.Signalled t.status }) t t (stays_unblocked cause.Signalled t.status is) refl
 not_woken (Some (named_action.WakeAll c)) t is =
     either_keeps (λ (u : Thread). u.status) (machine.is_waiting_on c t.status) (record t { status = machine.unblocked cause.Broadcast t.status }) t t (stays_unblocked cause.Broadcast t.status is) refl
 not_woken (Some (named_action.ForgetKey k)) t is = refl
@@ -117,8 +117,8 @@ not_woken (Some (named_action.ForgetKey k)) t is = refl
 abbrev own_status : Thread → Status → Transition → Status
 own_status t s o = (moved o (record t { status = s })).status
 
-module _ {passes : ℕ} {body : List Stmt} {shared : SharedState} {t : Thread} {others : Others} where
-  case_becomes : {next : NextStatement} {s : Status} {o : Transition} → TransitionCase passes body shared t others true next s o → (in_a_wait s ≡ true → HasEvent o) → may_become next o.events s (own_status t s o) ≡ true
+module _ {passes : ℕ} {body : List Stmt} {shared : SharedState} {t : Thread} {environment : Environment} where
+  case_becomes : {next : NextStatement} {s : Status} {o : Transition} → TransitionCase passes body shared t environment true next s o → (in_a_wait s ≡ true → HasEvent o) → may_become next o.events s (own_status t s o) ≡ true
   unfolding thread_at own_after
   case_becomes (rests next s alive) makes = unchanged next s (λ waits. true≢false (makes waits))
   case_becomes (wait_begun frame c m owns one unasked) makes = both_same c m
@@ -132,7 +132,7 @@ module _ {passes : ℕ} {body : List Stmt} {shared : SharedState} {t : Thread} {
   case_becomes _ makes = refl
 
   -- a transition that makes its thread wait has no action that names threads
-  case_unwoken : {next : NextStatement} {s : Status} {o : Transition} → TransitionCase passes body shared t others true next s o → (is_none o.named || not (is_waiting (own_status t s o))) ≡ true
+  case_unwoken : {next : NextStatement} {s : Status} {o : Transition} → TransitionCase passes body shared t environment true next s o → (is_none o.named || not (is_waiting (own_status t s o))) ≡ true
   unfolding thread_at own_after
   case_unwoken (rests next s alive) = refl
   case_unwoken _ = refl
@@ -148,11 +148,11 @@ module _ (script : Script) (config : Config) where
   own_of_step before r is e p t taken =
       let o : Transition = transition_by script config r.world p t e.alt in
       let moves : Moves script config r.world p e t = moves_of_run script config before r is e p t taken in
-      let it : IsLive p e.tid t = mover script config r.world p e t moves in
+      let it : HasValidId p e.tid t = mover script config r.world p e t moves in
       let at : IsSuspendedAt (next_of script t.frames) t.status = (threads_kept script config before r is e.pid e.tid p t (process_taken script config before r is e p t taken) it.found it.here).suspended in
       let case = case_of_step script config r.world p e t moves in
-      let makes : in_a_wait t.status ≡ true → HasEvent o = makes_event config.passes (body_at script t.frames) p.shared t (others_of config.slots r.world p t.id) e.alt (next_of script t.frames) t.status at taken.offered in
-      subst (λ (b : Bool). Becomes o t (named_after o.named (cond b (moved o t) t)).status) (sym it.live)
+      let makes : in_a_wait t.status ≡ true → HasEvent o = makes_event config.passes (body_at script t.frames) p.shared t (environment_of config.slots r.world p t.id) e.alt (next_of script t.frames) t.status at taken.offered in
+      subst (λ (b : Bool). Becomes o t (named_after o.named (cond b (moved o t) t)).status) (sym it.valid)
       (subst (Becomes o t) (sym (not_woken o.named (moved o t) (case_unwoken case))) (case_becomes case makes))
 
   -- each thread of a run is in a condition wait as the law says

@@ -1,10 +1,10 @@
 -- What a step makes of the state that its process shares, and that it takes a semaphore only where its count is above 0.
-use Rattle.pct_names.proofs.Names.{◌++◌, [], acts_on_request, acts_or, Alt, and_from, ap, body_at, Bool, cond, Config, Dest, Entry, false}
-use Rattle.pct_names.proofs.Names.{ForkHandlers, Frame, goes_on, length, List, list_all, MAX_FORK_HANDLERS, may_register, nat_lt, next_of}
-use Rattle.pct_names.proofs.Names.{NextStatement, None, NoStatement, Option, Others, others_of, Process, refl, registers_fork}
-use Rattle.pct_names.proofs.Names.{registers_if, Run, run, runs, Script, shared_after, shared_moved, SharedState, slice_index, Some}
-use Rattle.pct_names.proofs.Names.{StatementIn, Status, Stmt, stop_at, stops_or, subst, sym, Thread, Transition, transition_at}
-use Rattle.pct_names.proofs.Names.{transition_by, true, What, Why, ℕ, ◌∙◌, ◌∷◌, ◌≡◌}
+use Rattle.pct_names.proofs.Names.{◌++◌, [], acts_on_request, acts_or, Alt, and_from, ap, body_at, Bool, cond, Config, Dest, Entry}
+use Rattle.pct_names.proofs.Names.{Environment, environment_of, false, ForkHandlers, Frame, goes_on, length, List, list_all}
+use Rattle.pct_names.proofs.Names.{MAX_FORK_HANDLERS, may_register, nat_lt, next_of, NextStatement, None, NoStatement, Option, Process}
+use Rattle.pct_names.proofs.Names.{refl, registers_fork, registers_if, Run, run, runs, Script, shared_after, shared_moved, SharedState}
+use Rattle.pct_names.proofs.Names.{slice_index, Some, StatementIn, Status, Stmt, stop_at, stops_or, subst, sym, Thread, Transition}
+use Rattle.pct_names.proofs.Names.{transition_at, transition_by, true, What, Why, ℕ, ◌∙◌, ◌∷◌, ◌≡◌}
 use Rattle.std.proofs.Common.{append-nil, true≢false}
 use Rattle.pct_model.specs.declared.event.Caller.TheVariants as caller
 use Rattle.pct_model.specs.declared.event.What.TheVariants as what
@@ -61,7 +61,7 @@ none_elsewhere (w ∷ events) s next is = record { exits = refl; forks = refl }
 none_elsewhere [] status.Running next is = absurd (true≢false is)
 none_elsewhere [] _ next is = record { exits = refl; forks = refl }
 
-module _ (passes : ℕ) (body : List Stmt) (shared : SharedState) (t : Thread) (others : Others) where
+module _ (passes : ℕ) (body : List Stmt) (shared : SharedState) (t : Thread) (environment : Environment) where
   at_exit_agrees : (frame : Frame) (result : Dest) (f pc : ℕ) (stop : Option Why) (may : Bool) → Agrees (StatementIn frame (statement.AtExit result f)) status.Running (stops_or stop (registers_if may pc result f))
   unfolding registers_if
   at_exit_agrees frame result f pc (Some why) may none = record { exits = refl; forks = refl }
@@ -79,16 +79,16 @@ module _ (passes : ℕ) (body : List Stmt) (shared : SharedState) (t : Thread) (
       by true none = absurd (true≢false none)
       by false none = record { exits = refl; forks = refl }
 
-  running_agrees : (choice : Alt) (next : NextStatement) → Agrees next status.Running (acts_or choice status.Running (transition_at passes body shared t others choice next status.Running))
+  running_agrees : (choice : Alt) (next : NextStatement) → Agrees next status.Running (acts_or choice status.Running (transition_at passes body shared t environment choice next status.Running))
   unfolding transition_at acts_on_request runs
   running_agrees (alt.Act n) next none = record { exits = refl; forks = refl }
   running_agrees choice NoStatement none = record { exits = refl; forks = refl }
-  running_agrees choice (StatementIn frame (statement.AtExit result f)) none = at_exit_agrees frame result f _ (stop_at body shared t others frame (statement.AtExit result f)) (may_register shared) none
+  running_agrees choice (StatementIn frame (statement.AtExit result f)) none = at_exit_agrees frame result f _ (stop_at body shared t environment frame (statement.AtExit result f)) (may_register shared) none
   running_agrees choice (StatementIn frame (statement.AtFork result prepare parent child)) none =
-      at_fork_agrees frame result prepare parent child _ (length shared.fork_handlers) (stop_at body shared t others frame (statement.AtFork result prepare parent child)) none
+      at_fork_agrees frame result prepare parent child _ (length shared.fork_handlers) (stop_at body shared t environment frame (statement.AtFork result prepare parent child)) none
   running_agrees choice (StatementIn frame st) none = none_by_other frame st refl _
 
-  agrees : (choice : Alt) (next : NextStatement) (s : Status) → Agrees next s (acts_or choice s (transition_at passes body shared t others choice next s))
+  agrees : (choice : Alt) (next : NextStatement) (s : Status) → Agrees next s (acts_or choice s (transition_at passes body shared t environment choice next s))
   agrees choice next status.Running none = running_agrees choice next none
   agrees choice next s none = none_elsewhere _ s next refl
 
@@ -98,8 +98,8 @@ newest_taken : (f : ℕ) (functions : List ℕ) → without_first functions ≡ 
 newest_taken f [] = refl
 newest_taken f (g ∷ functions) = refl
 
-module _ {passes : ℕ} {body : List Stmt} {shared : SharedState} {t : Thread} {others : Others} where
-  case_changes : {next : NextStatement} {s : Status} {o : Transition} → TransitionCase passes body shared t others true next s o → Agrees next s o → ChangesShared t.id o.events s next shared (shared_moved o shared)
+module _ {passes : ℕ} {body : List Stmt} {shared : SharedState} {t : Thread} {environment : Environment} where
+  case_changes : {next : NextStatement} {s : Status} {o : Transition} → TransitionCase passes body shared t environment true next s o → Agrees next s o → ChangesShared t.id o.events s next shared (shared_moved o shared)
   unfolding shared_after
   case_changes (exit_registered frame result f may) agree = record { owners = refl; counts = refl; exit_functions = refl; fork_handlers = sym (append-nil shared.fork_handlers); exit_value = refl; restricted = refl }
   case_changes (fork_registered frame result handlers room) agree = record { owners = refl; counts = refl; exit_functions = refl; fork_handlers = refl; exit_value = refl; restricted = refl }
@@ -126,7 +126,7 @@ module _ {passes : ℕ} {body : List Stmt} {shared : SharedState} {t : Thread} {
   }
 
   -- it takes a semaphore only where its count is above 0
-  case_above : {next : NextStatement} {s : Status} {o : Transition} → TransitionCase passes body shared t others true next s o → list_all (is_above_0 shared.counts) o.events ≡ true
+  case_above : {next : NextStatement} {s : Status} {o : Transition} → TransitionCase passes body shared t environment true next s o → list_all (is_above_0 shared.counts) o.events ≡ true
   case_above (sem_taken frame n sem above) = and_from (nat_lt 0 (slice_index shared.counts sem)) true (above refl) refl
   case_above (fork_handler_called next at call is) = of_each_phase (λ (w : What). list_all (is_above_0 shared.counts) (w ∷ []) ≡ true) call.func refl refl refl at.phase
   case_above _ = refl
@@ -145,7 +145,7 @@ module _ (script : Script) (config : Config) where
       let next : NextStatement = next_of script t.frames in
       subst (λ (after : SharedState). ChangesShared e.tid o.events t.status next p.shared after) (sym (changed_shared e.tid o p))
       (subst (λ (tid : ℕ). ChangesShared tid o.events t.status next p.shared (shared_moved o p.shared)) (mover script config r.world p e t moves).number
-      (case_changes (case_of_step script config r.world p e t moves) (agrees config.passes (body_at script t.frames) p.shared t (others_of config.slots r.world p t.id) e.alt next t.status)))
+      (case_changes (case_of_step script config r.world p e t moves) (agrees config.passes (body_at script t.frames) p.shared t (environment_of config.slots r.world p t.id) e.alt next t.status)))
 
   changes_of_run : EveryStep script config IsLawful
   changes_of_run = every_step script config IsLawful changes_of_step

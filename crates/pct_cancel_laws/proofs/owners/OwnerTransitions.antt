@@ -1,7 +1,7 @@
 -- What each transition does with the owners of mutexes, by the tables: it sets those that its events report, a mutex that it acquires has
 -- no owner before, and one that it releases is owned by its thread.
-use Rattle.pct_names.proofs.Names.{◌++◌, ◌<◌, [], and_from, ap, ap₂, Bool, cond, cond_wait_point, encode, Entry, eqb-false, Event, event_of}
-use Rattle.pct_names.proofs.Names.{false, Frame, length, List, map, nat_eq, NextStatement, Others, owns, refl, reverse, Script}
+use Rattle.pct_names.proofs.Names.{◌++◌, ◌<◌, [], and_from, ap, ap₂, Bool, cond, cond_wait_point, encode, Entry, Environment, eqb-false}
+use Rattle.pct_names.proofs.Names.{Event, event_of, false, Frame, length, List, map, nat_eq, NextStatement, owns, refl, reverse, Script}
 use Rattle.pct_names.proofs.Names.{shared_after, shared_moved, SharedState, slice_index, slice_set, Status, Stmt, subst, sym, syntax_of}
 use Rattle.pct_names.proofs.Names.{Thread, Transition, true, What, ℕ, ◌∙◌, ◌∷◌, ◌≡◌}
 use Rattle.std.proofs.Common.{eqb-true}
@@ -45,7 +45,7 @@ pub record OwnersFit (script : Script) (owners : List ℕ) (reported : ℕ → �
 
 -- ---- the tables
 
-module _ (script : Script) (passes : ℕ) (shared : SharedState) (t : Thread) (others : Others) (e : Entry) (is_own : t.id ≡ e.tid) where
+module _ (script : Script) (passes : ℕ) (shared : SharedState) (t : Thread) (environment : Environment) (e : Entry) (is_own : t.id ≡ e.tid) where
   module _ (reported : ℕ → ℕ) (fits : OwnersFit script shared.owners reported) where
     set_fits : (m : ℕ) → IsMutex script m → (id tid : ℕ) → id ≡ tid → OwnersFit script (slice_set shared.owners m id) (λ n. cond (nat_eq m n) tid (reported n))
     set_fits m within id tid is = record {
@@ -55,7 +55,7 @@ module _ (script : Script) (passes : ℕ) (shared : SharedState) (t : Thread) (o
 
     -- the owners after a transition
     pub case_fits : {frames : List Frame} {body : List Stmt} {next : NextStatement} {s : Status} {o : Transition}
-        → IsPlaced script frames body next → IsSuspendedAt next s → TransitionCase passes body shared t others true next s o
+        → IsPlaced script frames body next → IsSuspendedAt next s → TransitionCase passes body shared t environment true next s o
         → OwnersFit script (shared_moved o shared).owners (λ m. after_own (owner m) (map (event_of e) (reverse o.events)) (reported m))
     unfolding shared_after encode syntax_of
     case_fits placed at (mutex_locked frame m free) = set_fits m (names_there script placed).0 t.id e.tid is_own
@@ -77,7 +77,7 @@ module _ (script : Script) (passes : ℕ) (shared : SharedState) (t : Thread) (o
     own_id m added same is = subst (λ (id : ℕ). nat_eq (owner_of e.pid m (map (event_of e) added ++ earlier)) id ≡ true) is_own (owned m t.id added same is)
 
     -- the law after the events of a transition
-    pub case_lawful : {body : List Stmt} {next : NextStatement} {s : Status} {o : Transition} → TransitionCase passes body shared t others true next s o
+    pub case_lawful : {body : List Stmt} {next : NextStatement} {s : Status} {o : Transition} → TransitionCase passes body shared t environment true next s o
         → each owners_allow earlier ≡ true → each owners_allow (map (event_of e) (reverse o.events) ++ earlier) ≡ true
     case_lawful (mutex_locked frame m free) law = and_from _ _ (owned m 0 [] refl (free refl)) law
     case_lawful (mutex_unlocked frame m is) law = and_from _ _ (own_id m [] refl is) law

@@ -1,8 +1,8 @@
 -- After every run the owners of mutexes are those that the events report, and a mutex is acquired while no thread owns it, and released by
 -- its owner.
-use Rattle.pct_names.proofs.Names.{◌++◌, body_at, changed, child_of, Config, Entry, Event, event_of, length, length-replicate, List, map}
-use Rattle.pct_names.proofs.Names.{next_of, Others, others_of, Process, refl, replicate, reverse, Script, SharedState, slice_index, subst}
-use Rattle.pct_names.proofs.Names.{suc, sym, Thread, Transition, transition_by, true, World, zero, ℕ, ◌∙◌, ◌≡◌}
+use Rattle.pct_names.proofs.Names.{◌++◌, body_at, changed, child_of, Config, Entry, Environment, environment_of, Event, event_of, length}
+use Rattle.pct_names.proofs.Names.{length-replicate, List, map, next_of, Process, refl, replicate, reverse, Script, SharedState}
+use Rattle.pct_names.proofs.Names.{slice_index, subst, suc, sym, Thread, Transition, transition_by, true, World, zero, ℕ, ◌∙◌, ◌≡◌}
 use Rattle.pct_laws.specs.Each.{each}
 use Rattle.pct_laws.specs.CondLaw.{owners_allow}
 use Rattle.pct_laws.specs.Kept.{IsSuspendedAt, EachProcess, OwnersKept}
@@ -11,7 +11,7 @@ use Rattle.pct_transition_cases.proofs.PlacedStatements.{is_placed}
 use Rattle.pct_transition_cases.proofs.TransitionCases.{TransitionCase}
 use Rattle.pct_thread_invariants.proofs.ThreadsOfRun.{threads_kept}
 use Rattle.pct_thread_invariants.proofs.lift.ChangedThreads.{changed_shared, other_shared}
-use Rattle.pct_thread_invariants.proofs.lift.MadeThreads.{IsLive}
+use Rattle.pct_thread_invariants.proofs.lift.MadeThreads.{HasValidId}
 use Rattle.pct_thread_invariants.proofs.lift.ReportedBy.{reported_by, after_own}
 use Rattle.pct_thread_invariants.proofs.lift.TakenSteps.{AfterEveryRun, every_run}
 use Rattle.pct_thread_invariants.proofs.lift.ThreadsAfter.{Moves, mover}
@@ -37,29 +37,29 @@ module _ (script : Script) (config : Config) where
   moves_at : AfterEveryRun script config (Known script config MovesAt)
   moves_at before r is e p t taken =
       let moves : Moves script config r.world p e t = moves_of_run script config before r is e p t taken in
-      let it : IsLive p e.tid t = mover script config r.world p e t moves in
+      let it : HasValidId p e.tid t = mover script config r.world p e t moves in
       (moves, (threads_kept script config before r is e.pid e.tid p t (process_taken script config before r is e p t taken) it.found it.here).suspended)
 
   module _ (w : World) (p : Process) (e : Entry) (t : Thread) (moves : MovesAt w p e t) where
     abbrev o : Transition
     o = transition_by script config w p t e.alt
 
-    abbrev others : Others
-    others = others_of config.slots w p t.id
+    abbrev environment : Environment
+    environment = environment_of config.slots w p t.id
 
     its_id : t.id ≡ e.tid
     its_id = (mover script config w p e t moves.0).number
 
-    its_case : TransitionCase config.passes (body_at script t.frames) p.shared t others true (next_of script t.frames) t.status o
-    its_case = case_of config.passes (body_at script t.frames) p.shared t others true e.alt (next_of script t.frames) t.status (λ known. moves.0.offered)
+    its_case : TransitionCase config.passes (body_at script t.frames) p.shared t environment true (next_of script t.frames) t.status o
+    its_case = case_of config.passes (body_at script t.frames) p.shared t environment true e.alt (next_of script t.frames) t.status (λ known. moves.0.offered)
 
     fit_after : (reported : ℕ → ℕ) → Fit p reported → Fit (changed e.tid o p) (λ m. after_own (owner m) (map (event_of e) (reverse o.events)) (reported m))
     fit_after reported fits =
         subst (λ (s : SharedState). OwnersFit script s.owners (λ m. after_own (owner m) (map (event_of e) (reverse o.events)) (reported m))) (sym (changed_shared e.tid o p))
-        (case_fits script config.passes p.shared t others e its_id reported fits (is_placed script t.frames) moves.1 its_case)
+        (case_fits script config.passes p.shared t environment e its_id reported fits (is_placed script t.frames) moves.1 its_case)
 
     lawful_after : (earlier : List Event) → Fit p (λ m. reported_by (owner m) e.pid earlier) → each owners_allow earlier ≡ true → each owners_allow (map (event_of e) (reverse o.events) ++ earlier) ≡ true
-    lawful_after earlier fits = case_lawful script config.passes p.shared t others e its_id earlier fits its_case
+    lawful_after earlier fits = case_lawful script config.passes p.shared t environment e its_id earlier fits its_case
 
   owners_rule : IsProcessRule owner Fit script config MovesAt
   unfolding child_of

@@ -1,7 +1,7 @@
 -- A thread that is to call a function that shall be a cancellation point, with a request to act upon, acts upon it, or the call is a stop.
-use Rattle.pct_names.proofs.Names.{◌&&◌, acts_on_request, acts_or, Alt, body_at, Bool, called_kind, choices_at, Config, Entry, false}
-use Rattle.pct_names.proofs.Names.{false≢true, Frame, is_allowed_asynchronously, is_deliverable, is_required, List, next_of, NextStatement}
-use Rattle.pct_names.proofs.Names.{None, NoStatement, not, offers, Option, Others, others_of, Process, refl, Run, run, runs, Script}
+use Rattle.pct_names.proofs.Names.{◌&&◌, acts_on_request, acts_or, Alt, body_at, Bool, called_kind, choices_at, Config, Entry, Environment}
+use Rattle.pct_names.proofs.Names.{environment_of, false, false≢true, Frame, is_allowed_asynchronously, is_deliverable, is_required, List}
+use Rattle.pct_names.proofs.Names.{next_of, NextStatement, None, NoStatement, not, offers, Option, Process, refl, Run, run, runs, Script}
 use Rattle.pct_names.proofs.Names.{SharedState, Some, StatementIn, Status, Stmt, stop_at, stops_or, subst, sym, Thread, transition_at, true}
 use Rattle.pct_names.proofs.Names.{Why, ◌||◌, ℕ, ◌∙◌, ◌≡◌}
 use Rattle.std.proofs.lemmas.Bool.{true≢false}
@@ -34,25 +34,25 @@ required_unsafe (statement.SetState enable old) required = absurd (false≢true 
 required_unsafe (statement.SetMode asynchronous old) required = absurd (false≢true required)
 required_unsafe _ required = refl
 
-module _ (passes : ℕ) (body : List Stmt) (shared : SharedState) (t : Thread) (others : Others) where
+module _ (passes : ℕ) (body : List Stmt) (shared : SharedState) (t : Thread) (environment : Environment) where
   -- a call that goes on is a stop, as without one the thread would have no request to act upon
-  goes_stopped : (choice : Alt) (frame : Frame) (s : Stmt) (stop : Option Why) → (stop ≡ None → ⊥) → acts_or_stops (stops_or stop (runs passes body shared t others choice frame s)).events ≡ true
+  goes_stopped : (choice : Alt) (frame : Frame) (s : Stmt) (stop : Option Why) → (stop ≡ None → ⊥) → acts_or_stops (stops_or stop (runs passes body shared t environment choice frame s)).events ≡ true
   goes_stopped choice frame s (Some why) stopped = refl
   goes_stopped choice frame s None stopped = absurd (stopped refl)
 
   -- a thread that goes on at such a call
-  goes_on_at_call : (choice : Alt) (frame : Frame) (s : Stmt) → is_required (called_kind s) ≡ true → is_deliverable t.state t.pending ≡ true → offers (choices_at body shared t others (StatementIn frame s) status.Running) choice ≡ true → is_acting choice ≡ false
-      → acts_or_stops (transition_at passes body shared t others choice (StatementIn frame s) status.Running).events ≡ true
+  goes_on_at_call : (choice : Alt) (frame : Frame) (s : Stmt) → is_required (called_kind s) ≡ true → is_deliverable t.state t.pending ≡ true → offers (choices_at body shared t environment (StatementIn frame s) status.Running) choice ≡ true → is_acting choice ≡ false
+      → acts_or_stops (transition_at passes body shared t environment choice (StatementIn frame s) status.Running).events ≡ true
   unfolding transition_at
   goes_on_at_call choice frame s required asked offered goes =
-      goes_stopped choice frame s (stop_at body shared t others frame s)
+      goes_stopped choice frame s (stop_at body shared t environment frame s)
       (λ none.
-      let allowed = no_stops body shared t others frame s none in
-      true≢false (sym asked ∙ gone_on_at_required body shared t others choice frame s required (required_unsafe s required) allowed.0 allowed.1.0 offered goes))
+      let allowed = no_stops body shared t environment frame s none in
+      true≢false (sym asked ∙ gone_on_at_required body shared t environment choice frame s required (required_unsafe s required) allowed.0 allowed.1.0 offered goes))
 
   -- the transition of a thread at such a call
-  at_call : (choice : Alt) (next : NextStatement) → calls_required_point next ≡ true → is_deliverable t.state t.pending ≡ true → offers (choices_at body shared t others next status.Running) choice ≡ true
-      → acts_or_stops (acts_or choice status.Running (transition_at passes body shared t others choice next status.Running)).events ≡ true
+  at_call : (choice : Alt) (next : NextStatement) → calls_required_point next ≡ true → is_deliverable t.state t.pending ≡ true → offers (choices_at body shared t environment next status.Running) choice ≡ true
+      → acts_or_stops (acts_or choice status.Running (transition_at passes body shared t environment choice next status.Running)).events ≡ true
   unfolding acts_on_request
   at_call choice NoStatement required asked offered = absurd (false≢true required)
   at_call (alt.Act n) next required asked offered = refl
@@ -77,10 +77,10 @@ module _ (script : Script) (config : Config) where
   acts_at_call : (before : List Entry) (r : Run) → run script config before ≡ Some r → (e : Entry) (p : Process) (t : Thread) → IsTaken script config r.world e p t → acts_at_calls script (step_of script config r p e t) ≡ true
   acts_at_call before r is e p t taken = implied (is_running t.status) (calls_required_point (next_of script t.frames)) (has_to_act e.pid e.tid r.events) _ (λ running required acts.
       let body : List Stmt = body_at script t.frames in
-      let others : Others = others_of config.slots r.world p t.id in
+      let environment : Environment = environment_of config.slots r.world p t.id in
       let next : NextStatement = next_of script t.frames in
-      subst (λ (s : Status). offers (choices_at body p.shared t others next s) e.alt ≡ true → acts_or_stops (acts_or e.alt s (transition_at config.passes body p.shared t others e.alt next s)).events ≡ true) (sym (its_status t.status running))
-      (at_call config.passes body p.shared t others e.alt next required (sym (mover_acts script config before r is e p t taken) ∙ acts)) taken.offered)
+      subst (λ (s : Status). offers (choices_at body p.shared t environment next s) e.alt ≡ true → acts_or_stops (acts_or e.alt s (transition_at config.passes body p.shared t environment e.alt next s)).events ≡ true) (sym (its_status t.status running))
+      (at_call config.passes body p.shared t environment e.alt next required (sym (mover_acts script config before r is e p t taken) ∙ acts)) taken.offered)
 
   -- each step of every run acts at such a call, or is a stop
   pub acts_at_calls_of_run : EveryStep script config (λ s. acts_at_calls script s ≡ true)

@@ -12,7 +12,7 @@ use Rattle.pct_laws.specs.ThreadSummary.{ThreadSummary, summary_of}
 use Rattle.pct_thread_invariants.proofs.ThreadsOfRun.{threads_kept}
 use Rattle.pct_thread_invariants.proofs.thread.JoinTransitions.{moves_alive}
 use Rattle.pct_thread_invariants.proofs.lift.EveryProcess.{process_taken, ids_of_run}
-use Rattle.pct_thread_invariants.proofs.lift.MadeThreads.{IsLive, live_thread}
+use Rattle.pct_thread_invariants.proofs.lift.MadeThreads.{HasValidId, with_valid_id}
 use Rattle.pct_thread_invariants.proofs.lift.TakenSteps.{IsTaken}
 use Rattle.pct_cancel_laws.proofs.requests.CancelStates.{cancelability_of_run}
 use Rattle.pct_cancel_laws.proofs.requests.PendingRequests.{pending_of_run}
@@ -74,16 +74,16 @@ module _ (script : Script) (config : Config) (before : List Entry) (r : Run) (is
   mover_process = process_taken script config before r is e p t taken
 
   -- the thread holds its slot
-  pub mover_live : IsLive p e.tid t
-  mover_live = live_thread e.tid p t (ids_of_run script config before r is e.pid p mover_process).distinct taken.is_thread
+  pub mover_valid : HasValidId p e.tid t
+  mover_valid = with_valid_id e.tid p t (ids_of_run script config before r is e.pid p mover_process).distinct taken.is_thread
 
   -- and was made
   pub mover_made : made_thread e.pid e.tid r.world ≡ Some t
-  mover_made = ap (option_and_then (thread_with e.tid)) mover_process ∙ mover_live.found
+  mover_made = ap (option_and_then (thread_with e.tid)) mover_process ∙ mover_valid.found
 
   -- it has to act, by its events, exactly if it has a request and its cancelability is enabled
   pub mover_acts : has_to_act e.pid e.tid r.events ≡ is_deliverable t.state t.pending
-  mover_acts = acts_by_events script config before r is e.pid e.tid p t mover_process mover_live.found mover_live.here (moves_alive script config r.world p t e.alt taken.offered)
+  mover_acts = acts_by_events script config before r is e.pid e.tid p t mover_process mover_valid.found mover_valid.here (moves_alive script config r.world p t e.alt taken.offered)
 
   -- one that has to act has not begun to end or to exit its process
   mover_unbegun : is_deliverable t.state t.pending ≡ true → has_not_begun e.pid e.tid r.events ≡ true
@@ -94,5 +94,5 @@ module _ (script : Script) (config : Config) (before : List Entry) (r : Run) (is
   -- one that has to act, and has asynchronous cancelability, set it so last
   pub mover_asynchronous : is_deliverable t.state t.pending ≡ true → t.mode ≡ Asynchronous → is_asynchronous_last e.pid e.tid r.events ≡ true
   mover_asynchronous asked asynchronous =
-      let set = cancelability_of_run script config before r is e.pid e.tid t mover_made mover_live.here (mover_unbegun asked) in
+      let set = cancelability_of_run script config before r is e.pid e.tid t mover_made mover_valid.here (mover_unbegun asked) in
       sym (set_asynchronous (is_asynchronous_last e.pid e.tid r.events)) ∙ ap is_asynchronous_mode (sym set.1 ∙ asynchronous)

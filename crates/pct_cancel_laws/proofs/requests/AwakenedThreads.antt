@@ -1,7 +1,7 @@
 -- A thread that is suspended in a cancellation point, and has to act upon a request, has a choice to do so.
-use Rattle.pct_names.proofs.Names.{◌++◌, [], act_if, Alt, ap, body_at, Bool, choices_at, cond, Config, false, false≢true, go_if}
-use Rattle.pct_names.proofs.Names.{hand_on_or_act, is_deliverable, is_ended_status, List, list_any, next_of, NextStatement, Others}
-use Rattle.pct_names.proofs.Names.{others_of, refl, Script, SharedState, Status, Stmt, sym, Thread, true, Waiter, ◌∙◌, ◌∷◌, ◌≡◌}
+use Rattle.pct_names.proofs.Names.{◌++◌, [], act_if, Alt, ap, body_at, Bool, choices_at, cond, Config, Environment, environment_of, false}
+use Rattle.pct_names.proofs.Names.{false≢true, go_if, hand_on_or_act, is_deliverable, is_ended_status, List, list_any, next_of}
+use Rattle.pct_names.proofs.Names.{NextStatement, refl, Script, SharedState, Status, Stmt, sym, Thread, true, Waiter, ◌∙◌, ◌∷◌, ◌≡◌}
 use Rattle.pct_model.specs.declared.schedule.Alt.TheVariants as alt
 use Rattle.pct_model.specs.declared.state.Cause.TheVariants as cause
 use Rattle.pct_model.specs.declared.state.Status.TheVariants as status
@@ -24,9 +24,9 @@ hands_on : (waiters : List Waiter) → list_any is_to_act (hand_on_or_act waiter
 hands_on [] = refl
 hands_on (waiter ∷ waiters) = refl
 
-module _ (body : List Stmt) (shared : SharedState) (t : Thread) (others : Others) (asked : is_deliverable t.state t.pending ≡ true) where
+module _ (body : List Stmt) (shared : SharedState) (t : Thread) (environment : Environment) (asked : is_deliverable t.state t.pending ≡ true) where
   -- a thread that is suspended, by its status
-  awake : (next : NextStatement) (s : Status) → is_suspended s ≡ true → list_any is_to_act (choices_at body shared t others next s) ≡ true
+  awake : (next : NextStatement) (s : Status) → is_suspended s ≡ true → list_any is_to_act (choices_at body shared t environment next s) ≡ true
   unfolding choices_at
   awake next (status.AtPoint index) suspended = acts_too _ (act_if (is_deliverable t.state t.pending)) (requested (is_deliverable t.state t.pending) asked)
   awake next (status.Joining id) suspended = acts_too _ (act_if (is_deliverable t.state t.pending)) (requested (is_deliverable t.state t.pending) asked)
@@ -34,7 +34,7 @@ module _ (body : List Stmt) (shared : SharedState) (t : Thread) (others : Others
   awake next (status.InWaitPid pid) suspended = acts_too _ (act_if (is_deliverable t.state t.pending)) (requested (is_deliverable t.state t.pending) asked)
   awake next (status.Waiting c m) suspended = requested (is_deliverable t.state t.pending) asked
   awake next (status.Reacquire c m cause.Signalled) suspended =
-      acts_too _ (cond (is_deliverable t.state t.pending) (hand_on_or_act (others.waiters c)) []) (ap (λ (b : Bool). list_any is_to_act (cond b (hand_on_or_act (others.waiters c)) [])) asked ∙ hands_on (others.waiters c))
+      acts_too _ (cond (is_deliverable t.state t.pending) (hand_on_or_act (environment.waiters c)) []) (ap (λ (b : Bool). list_any is_to_act (cond b (hand_on_or_act (environment.waiters c)) [])) asked ∙ hands_on (environment.waiters c))
   awake next (status.Reacquire c m cause.Broadcast) suspended =
       acts_too _ (cond (is_deliverable t.state t.pending) (alt.Act 0 ∷ []) []) (ap (λ (b : Bool). list_any is_to_act (cond b (alt.Act 0 ∷ []) [])) asked)
   awake next _ suspended = absurd (false≢true suspended)
@@ -47,5 +47,5 @@ suspended_alive _ suspended = refl
 -- after every run, a thread that is suspended in a cancellation point, and has to act upon a request, has a choice to do so
 pub awakened_of_run : (script : Script) (config : Config) → AfterEveryRun script config (λ r. Awakened script config r.world r.events)
 awakened_of_run script config entries r is pid p made tid t found here suspended has =
-    awake (body_at script t.frames) p.shared t (others_of config.slots r.world p t.id)
+    awake (body_at script t.frames) p.shared t (environment_of config.slots r.world p t.id)
     (sym (acts_by_events script config entries r is pid tid p t made found here (suspended_alive t.status suspended)) ∙ has) (next_of script t.frames) t.status suspended

@@ -1,8 +1,8 @@
 -- A thread that has neither begun to end nor begun to exit its process has the cancelability state and type that its events report.
-use Rattle.pct_names.proofs.Names.{◌&&◌, [], and_parts, ap, ap₂, body_at, Bool, cond, Config, Event, false, false≢true, has_begun_to_end}
-use Rattle.pct_names.proofs.Names.{is_forking, List, mode_if, moved, named_after, NamedAction, next_of, NextStatement, not, Option, Others}
-use Rattle.pct_names.proofs.Names.{others_of, own_after, refl, reverse, Script, SharedState, state_if, Status, Stmt, subst, sym, Thread}
-use Rattle.pct_names.proofs.Names.{thread_at, Transition, transition_by, true, What, ℕ, ◌∙◌, ◌∷◌, ◌≡◌}
+use Rattle.pct_names.proofs.Names.{◌&&◌, [], and_parts, ap, ap₂, body_at, Bool, cond, Config, Environment, environment_of, Event, false}
+use Rattle.pct_names.proofs.Names.{false≢true, has_begun_to_end, is_forking, List, mode_if, moved, named_after, NamedAction, next_of}
+use Rattle.pct_names.proofs.Names.{NextStatement, not, Option, own_after, refl, reverse, Script, SharedState, state_if, Status, Stmt, subst}
+use Rattle.pct_names.proofs.Names.{sym, Thread, thread_at, Transition, transition_by, true, What, ℕ, ◌∙◌, ◌∷◌, ◌≡◌}
 use Rattle.pct_laws.specs.CancelEvents.{enabled_after, is_enabled_last, asynchronous_after, is_asynchronous_last, has_not_begun}
 use Rattle.pct_laws.specs.Kept.{EachThread}
 use Rattle.pct_laws.specs.KnownThreads.{is_own, is_fork_of}
@@ -80,9 +80,9 @@ AsSet t k = not_begun k.summary ≡ true → (t.state ≡ state_if k.enabled) ×
 begun_by_exit : (s : ThreadSummary) → (not (has_begun_to_end s.reason) && false) ≡ true → ⊥
 begun_by_exit s alive = false≢true (and_parts (not (has_begun_to_end s.reason)) false alive).1
 
-module _ (passes : ℕ) (body : List Stmt) (shared : SharedState) (t : Thread) (others : Others) (offered : Bool) where
+module _ (passes : ℕ) (body : List Stmt) (shared : SharedState) (t : Thread) (environment : Environment) (offered : Bool) where
   -- the thread after a transition
-  case_kept : {next : NextStatement} {s : Status} {o : Transition} (k : CancelState) → TransitionCase passes body shared t others offered next s o → AsSet t k → AsSet (moved o t) (after_all cancel_state (reverse o.events) k)
+  case_kept : {next : NextStatement} {s : Status} {o : Transition} (k : CancelState) → TransitionCase passes body shared t environment offered next s o → AsSet t k → AsSet (moved o t) (after_all cancel_state (reverse o.events) k)
   unfolding thread_at own_after
   case_kept k (main_returned frame s v returns is once) as_set alive = absurd (begun_by_exit k.summary alive)
   case_kept k (process_exited frame v alone) as_set alive = absurd (begun_by_exit k.summary alive)
@@ -129,9 +129,9 @@ module _ (script : Script) (config : Config) where
         named = λ a t k is. (rule.named a t k.summary is.0, named_as_set a t k is.1);
         kept = λ w p t k choice known offered is.
             let o : Transition = transition_by script config w p t choice in
-            let others : Others = others_of config.slots w p t.id in (
+            let environment : Environment = environment_of config.slots w p t.id in (
               subst (FitsAny script config.passes (moved o t)) (summary_after (reverse o.events) k) (rule.kept w p t k.summary choice known offered is.0),
-              case_kept config.passes (body_at script t.frames) p.shared t others true k (case_of config.passes (body_at script t.frames) p.shared t others true choice (next_of script t.frames) t.status (λ known. offered)) is.1,
+              case_kept config.passes (body_at script t.frames) p.shared t environment true k (case_of config.passes (body_at script t.frames) p.shared t environment true choice (next_of script t.frames) t.status (λ known. offered)) is.1,
             );
         replica = λ w p t k at known forks is.
             (rule.replica w p t k.summary at known forks is.0, λ alive. is.1 (forks_alive t k (ap is_forking forks) is.0));

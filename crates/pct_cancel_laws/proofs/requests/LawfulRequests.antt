@@ -2,11 +2,11 @@
 -- a thread that has to act upon a request calls no cancellation point, a thread returns from one after its call, and one that has begun to
 -- end does not enable its cancelability.
 use Rattle.pct_names.proofs.Names.{◌&&◌, ◌++◌, and_from, and_parts, ap, Bool, Cause, cond, cond_wait_point, Config, Disable, Enable, Entry}
-use Rattle.pct_names.proofs.Names.{Event, event_of, false, false≢true, Frame, has_begun_to_end, has_left_wait, is_deliverable, is_required}
-use Rattle.pct_names.proofs.Names.{List, made_thread, map, moved, nat_eq, next_of, NextStatement, not, Option, option_map_or, or_left}
-use Rattle.pct_names.proofs.Names.{or_right, others_of, own_after, point_kind, Process, refl, reverse, Run, run, Script, sem_wait_point}
-use Rattle.pct_names.proofs.Names.{Some, statement_at, StatementIn, Status, Stmt, subst, sym, testcancel_point, Thread, thread_at}
-use Rattle.pct_names.proofs.Names.{Transition, transition_by, true, waitpid_point, What, ◌||◌, ℕ, ◌∙◌, ◌∷◌, ◌≡◌}
+use Rattle.pct_names.proofs.Names.{environment_of, Event, event_of, false, false≢true, Frame, has_begun_to_end, has_left_wait}
+use Rattle.pct_names.proofs.Names.{is_deliverable, is_required, List, made_thread, map, moved, nat_eq, next_of, NextStatement, not, Option}
+use Rattle.pct_names.proofs.Names.{option_map_or, or_left, or_right, own_after, point_kind, Process, refl, reverse, Run, run, Script}
+use Rattle.pct_names.proofs.Names.{sem_wait_point, Some, statement_at, StatementIn, Status, Stmt, subst, sym, testcancel_point, Thread}
+use Rattle.pct_names.proofs.Names.{thread_at, Transition, transition_by, true, waitpid_point, What, ◌||◌, ℕ, ◌∙◌, ◌∷◌, ◌≡◌}
 use Rattle.std.proofs.Common.{eq-eqb, eqb-true}
 use Rattle.std.proofs.lemmas.Bool.{true≢false}
 use Rattle.pct_model.specs.declared.event.What.TheVariants as what
@@ -15,7 +15,7 @@ use Rattle.pct_model.specs.declared.state.Status.TheVariants as status
 use Rattle.pct_model.specs.declared.statement.Stmt.TheVariants as statement
 use Rattle.pct_laws.specs.CancelEvents.{is_requested, is_enabled_last, has_to_act}
 use Rattle.pct_laws.specs.Each.{each}
-use Rattle.pct_laws.specs.NewestEvents.{newest_is, calls_point}
+use Rattle.pct_laws.specs.NewestEvents.{newest_is, reports_call}
 use Rattle.pct_laws.specs.RequestsLaw.{is_in_wait, is_to_return, is_to_end, has_own_return, may_return, allows}
 use Rattle.pct_laws.specs.Kept.{is_call_of, is_leaving, WaitKept}
 use Rattle.pct_laws.specs.KnownThreads.{is_own}
@@ -33,7 +33,7 @@ use Rattle.pct_thread_invariants.proofs.lift.EveryThread.{of_made_thread}
 use Rattle.pct_thread_invariants.proofs.lift.HandlerEvents.{of_each_phase}
 use Rattle.pct_thread_invariants.proofs.lift.ReportedBy.{after_all}
 use Rattle.pct_thread_invariants.proofs.lift.TakenSteps.{IsTaken, AfterEveryRun, every_run}
-use Rattle.pct_cancel_laws.proofs.requests.ActingThreads.{mover_process, mover_live, mover_made, mover_acts}
+use Rattle.pct_cancel_laws.proofs.requests.ActingThreads.{mover_process, mover_valid, mover_made, mover_acts}
 use Rattle.pct_cancel_laws.proofs.requests.CancelStates.{not_begun}
 use Rattle.pct_cancel_laws.proofs.requests.LeftWaits.{left_waits_of_run}
 use Rattle.pct_thread_invariants.proofs.thread.SuspendedCalls.{call_event, newest_call_of_run}
@@ -108,7 +108,7 @@ module _ (script : Script) (config : Config) (before : List Entry) (r : Run) (is
 
   -- and is not gone
   here : t.gone ≡ false
-  here = (mover_live script config before r is e p t taken).here
+  here = (mover_valid script config before r is e p t taken).here
 
   -- the thread has to act, by its events, if it has a request and its cancelability is enabled
   acts : has_to_act e.pid e.tid r.events ≡ is_deliverable t.state t.pending
@@ -131,25 +131,25 @@ module _ (script : Script) (config : Config) (before : List Entry) (r : Run) (is
   ends_in_wait m left = acts_after e m r.events ∙ acts ∙ left_waits_of_run script config before r is e.pid e.tid t it_made here left
 
   -- the newest event of a thread that is suspended in a call
-  called : {s : Status} (index : ℕ) → t.status ≡ s → call_event s ≡ Some (what.Called index) → newest_is (calls_point index) e.pid e.tid r.events ≡ true
+  called : {s : Status} (index : ℕ) → t.status ≡ s → call_event s ≡ Some (what.Called index) → newest_is (reports_call index) e.pid e.tid r.events ≡ true
   called index status_is in_call =
-      ap (λ (o : Option What). option_map_or (calls_point index) o false) (newest_call_of_run script config before r is e.pid e.tid t it_made here (what.Called index) (ap call_event status_is ∙ in_call)) ∙ eq-eqb index index refl
+      ap (λ (o : Option What). option_map_or (reports_call index) o false) (newest_call_of_run script config before r is e.pid e.tid t it_made here (what.Called index) (ap call_event status_is ∙ in_call)) ∙ eq-eqb index index refl
 
   -- the point at which it is suspended is that of its statement
   same_point : (index i : ℕ) (frame : Frame) → next_of script t.frames ≡ StatementIn frame (statement.PointCall i) → t.status ≡ status.AtPoint index → i ≡ index
   same_point index i frame next_is status_is =
-      let kept = threads_kept script config before r is e.pid e.tid p t (mover_process script config before r is e p t taken) (mover_live script config before r is e p t taken).found here in
+      let kept = threads_kept script config before r is e.pid e.tid p t (mover_process script config before r is e p t taken) (mover_valid script config before r is e p t taken).found here in
       eqb-true i index (and_parts (nat_eq i index) (is_required (point_kind index)) (ap (is_call_of index) (sym next_is) ∙ kept.at_point index status_is)).0
 
   -- a statement of the script calls a generic point, from which the thread may return
-  returns : (index : ℕ) (frame : Frame) → statement_at script frame ≡ Some (statement.PointCall index) → (is_required (point_kind index) ≡ true → newest_is (calls_point index) e.pid e.tid r.events ≡ true) → may_return index e.pid e.tid r.events ≡ true
-  returns index frame at = return_by (has_own_return index) (nat_eq index testcancel_point) (nat_eq index cond_wait_point) (is_required (point_kind index)) (has_to_act e.pid e.tid r.events) (is_to_return (wait_stage e.pid e.tid r.events)) (newest_is (calls_point index) e.pid e.tid r.events)
+  returns : (index : ℕ) (frame : Frame) → statement_at script frame ≡ Some (statement.PointCall index) → (is_required (point_kind index) ≡ true → newest_is (reports_call index) e.pid e.tid r.events ≡ true) → may_return index e.pid e.tid r.events ≡ true
+  returns index frame at = return_by (has_own_return index) (nat_eq index testcancel_point) (nat_eq index cond_wait_point) (is_required (point_kind index)) (has_to_act e.pid e.tid r.events) (is_to_return (wait_stage e.pid e.tid r.events)) (newest_is (reports_call index) e.pid e.tid r.events)
       (has_no_own_return script frame index at) (is_no_test script frame index at) (is_other_point script frame index at)
 
   -- the events of a transition keep the law
   case_lawful : {body : List Stmt} {next : NextStatement} {s : Status} {o : Transition} → IsPlaced script t.frames body next → next_of script t.frames ≡ next → t.status ≡ s
       → FitsAny script config.passes (moved o t) (after_all summary (reverse o.events) (summary_of e.pid e.tid r.events))
-      → TransitionCase config.passes body p.shared t (others_of config.slots r.world p t.id) true next s o → each allows (map (event_of e) (reverse o.events) ++ r.events) ≡ true
+      → TransitionCase config.passes body p.shared t (environment_of config.slots r.world p t.id) true next s o → each allows (map (event_of e) (reverse o.events) ++ r.events) ≡ true
   unfolding thread_at own_after
   case_lawful place next_is status_is fits (canceled next asked where_it_may) = and_from _ _ (cancels asked) law
   case_lawful place next_is status_is fits (canceled_at_point next index asked) = and_from _ _ (cancels asked) law
@@ -195,7 +195,7 @@ module _ (script : Script) (config : Config) where
   fits_after before r is e p t taken =
       let made : made_thread e.pid e.tid r.world ≡ Some t = mover_made script config before r is e p t taken in
       let fits : FitsAny script config.passes t (summary_of e.pid e.tid r.events) = subst (FitsAny script config.passes t) (sym (summary_reading e.tid e.pid r.events))
-      (of_made_thread summary (FitsAny script config.passes) r (threads_fit script config before r is) e.pid e.tid t made (mover_live script config before r is e p t taken).here) in
+      (of_made_thread summary (FitsAny script config.passes) r (threads_fit script config before r is) e.pid e.tid t made (mover_valid script config before r is e p t taken).here) in
       (thread_rule script config).kept r.world p t (summary_of e.pid e.tid r.events) e.alt (processes_fit script config before r is e.pid p (mover_process script config before r is e p t taken)) taken.offered fits
 
   -- the law of cancellation, of the events of every run

@@ -1,9 +1,9 @@
 -- A thread that acted upon a request in a condition wait, and does not own its mutex yet, has the request pending and its cancelability
 -- enabled.
-use Rattle.pct_names.proofs.Names.{◌&&◌, ap, body_at, Bool, Cause, cond, Config, false, false≢true, has_left_wait, in_child, is_deliverable}
-use Rattle.pct_names.proofs.Names.{is_live_thread, is_waiting_on, List, moved, named_after, NamedAction, next_of, NextStatement, not}
-use Rattle.pct_names.proofs.Names.{Option, Others, others_of, own_after, refl, Script, SharedState, Some, State, Status, Stmt, sym, Thread}
-use Rattle.pct_names.proofs.Names.{thread_at, Transition, true, unblocked, ℕ, ◌∙◌, ◌≡◌}
+use Rattle.pct_names.proofs.Names.{◌&&◌, ap, body_at, Bool, Cause, cond, Config, Environment, environment_of, false, false≢true}
+use Rattle.pct_names.proofs.Names.{has_left_wait, has_valid_id, in_child, is_deliverable, is_waiting_on, List, moved, named_after}
+use Rattle.pct_names.proofs.Names.{NamedAction, next_of, NextStatement, not, Option, own_after, refl, Script, SharedState, Some, State}
+use Rattle.pct_names.proofs.Names.{Status, Stmt, sym, Thread, thread_at, Transition, true, unblocked, ℕ, ◌∙◌, ◌≡◌}
 use Rattle.pct_model.specs.declared.state.Cause.TheVariants as cause
 use Rattle.pct_model.specs.declared.state.Status.TheVariants as status
 use Rattle.pct_model.specs.declared.transition.NamedAction.TheVariants as named_action
@@ -44,18 +44,18 @@ sent_again state pending is = ap (λ (s : State). is_deliverable s true) (delive
 -- an action that names the thread
 named_has : (a : Option NamedAction) (t : Thread) → HasRequest t → HasRequest (named_after a t)
 unfolding named_after
-named_has (Some (named_action.EndJoin id)) t has = either (is_live_thread id t) (record t { joined = true }) t has has
-named_has (Some (named_action.Request id)) t has = either (is_live_thread id t && not t.ended) (record t { pending = true }) t (λ left. sent_again t.state t.pending (has left)) has
-named_has (Some (named_action.Detach id)) t has = either (is_live_thread id t) (record t { detached = true }) t has has
-named_has (Some (named_action.Wake id)) t has = either (is_live_thread id t) (record t { status = unblocked cause.Signalled t.status }) t (λ left. has (not_left cause.Signalled refl t.status left)) has
+named_has (Some (named_action.EndJoin id)) t has = either (has_valid_id id t) (record t { joined = true }) t has has
+named_has (Some (named_action.Request id)) t has = either (has_valid_id id t && not t.ended) (record t { pending = true }) t (λ left. sent_again t.state t.pending (has left)) has
+named_has (Some (named_action.Detach id)) t has = either (has_valid_id id t) (record t { detached = true }) t has has
+named_has (Some (named_action.Wake id)) t has = either (has_valid_id id t) (record t { status = unblocked cause.Signalled t.status }) t (λ left. has (not_left cause.Signalled refl t.status left)) has
 named_has (Some (named_action.WakeAll c)) t has = either (is_waiting_on c t.status) (record t { status = unblocked cause.Broadcast t.status }) t (λ left. has (not_left cause.Broadcast refl t.status left)) has
 named_has _ t has = has
 
 -- ---- its own transition
 
-module _ (passes : ℕ) (body : List Stmt) (shared : SharedState) (t : Thread) (others : Others) where
+module _ (passes : ℕ) (body : List Stmt) (shared : SharedState) (t : Thread) (environment : Environment) where
   -- the thread after a transition
-  case_has : {next : NextStatement} {s : Status} {o : Transition} → TransitionCase passes body shared t others true next s o → HasRequest (record t { status = s }) → HasRequest (moved o (record t { status = s }))
+  case_has : {next : NextStatement} {s : Status} {o : Transition} → TransitionCase passes body shared t environment true next s o → HasRequest (record t { status = s }) → HasRequest (moved o (record t { status = s }))
   unfolding thread_at own_after
   case_has (rests next s alive) has = has
   case_has (canceled_in_wait next c m asked) has = λ left. asked refl
@@ -73,8 +73,8 @@ module _ (script : Script) (config : Config) where
     created = λ w p t k choice new known offered has makes left. absurd (false≢true left);
     named = λ a t k has. named_has a t has;
     kept = λ w p t k choice known offered has.
-        let others : Others = others_of config.slots w p t.id in
-        case_has config.passes (body_at script t.frames) p.shared t others (case_of config.passes (body_at script t.frames) p.shared t others true choice (next_of script t.frames) t.status (λ known. offered)) has;
+        let environment : Environment = environment_of config.slots w p t.id in
+        case_has config.passes (body_at script t.frames) p.shared t environment (case_of config.passes (body_at script t.frames) p.shared t environment true choice (next_of script t.frames) t.status (λ known. offered)) has;
     replica = λ w p t k at known forks has left. absurd (false≢true (sym (ap (λ (s : Status). has_left_wait (in_child s)) forks) ∙ left));
   }
 

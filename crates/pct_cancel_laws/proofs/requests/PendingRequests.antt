@@ -1,8 +1,8 @@
 -- A request is pending for a thread that has not ended exactly if the events report one.
-use Rattle.pct_names.proofs.Names.{◌&&◌, [], Alt, and_from, and_left, ap, ap₂, body_at, Bool, changed, cond, Config, Entry, Event, event_of}
-use Rattle.pct_names.proofs.Names.{false, false≢true, find, holds_slot, inl, inr, is_live_thread, is_waiting_on, List, list_any}
-use Rattle.pct_names.proofs.Names.{made_process, map, moved, named_after, NamedAction, nat_eq, next_of, NextStatement, None, none-some, not}
-use Rattle.pct_names.proofs.Names.{Option, option_and_then, or_from, others_of, own_after, OwnAction, Process, refl, requests, reverse}
+use Rattle.pct_names.proofs.Names.{◌&&◌, [], Alt, and_from, and_left, ap, ap₂, body_at, Bool, changed, cond, Config, Entry, environment_of}
+use Rattle.pct_names.proofs.Names.{Event, event_of, false, false≢true, find, has_valid_id, holds_slot, inl, inr, is_waiting_on, List}
+use Rattle.pct_names.proofs.Names.{list_any, made_process, map, moved, named_after, NamedAction, nat_eq, next_of, NextStatement, None}
+use Rattle.pct_names.proofs.Names.{none-some, not, Option, option_and_then, or_from, own_after, OwnAction, Process, refl, requests, reverse}
 use Rattle.pct_names.proofs.Names.{same_Some, Script, SharedState, Some, Status, Stmt, subst, suc, sym, Thread, thread_at, thread_moved}
 use Rattle.pct_names.proofs.Names.{thread_with, Transition, transition_by, true, unblocked, value_of, What, with_id, World, ◌||◌, ℕ, ◌∙◌}
 use Rattle.pct_names.proofs.Names.{◌∷◌, ◌≡◌, ◌⊎◌}
@@ -23,9 +23,10 @@ use Rattle.pct_thread_invariants.proofs.lift.TakenSteps.{AfterEveryRun}
 use Rattle.pct_thread_invariants.proofs.lift.ChangedThreads.{either_keeps, going_on_keeps, other_threads, named_keeps}
 use Rattle.pct_thread_invariants.proofs.lift.HandlerEvents.{of_each_phase}
 use Rattle.pct_thread_invariants.proofs.lift.ReportedBy.{Reading, reported_by, is_reading, after_own}
-use Rattle.pct_thread_invariants.proofs.lift.ThreadsAfter.{initial_thread, Moves, mover, After, was_made, is_new, is_absent, after, same_gone}
+use Rattle.pct_thread_invariants.proofs.lift.ThreadsAfter.{initial_thread, Moves, mover, After, was_made, is_new, is_absent, after}
+use Rattle.pct_thread_invariants.proofs.lift.ThreadsAfter.{same_gone}
 use Rattle.pct_thread_invariants.proofs.lift.InheritedThreads.{Heir, is_replica, is_gone, has_none, heir}
-use Rattle.pct_thread_invariants.proofs.lift.MadeThreads.{live_thread}
+use Rattle.pct_thread_invariants.proofs.lift.MadeThreads.{with_valid_id}
 use Rattle.pct_thread_invariants.proofs.lift.EveryProcess.{FitsReports, IsProcessRule, every_process, moves_of_run}
 use Rattle.pct_thread_invariants.proofs.thread.NamedThreads.{swapped, unnamed, unnamed_flags, IsNamed, named_by}
 
@@ -51,8 +52,8 @@ record SendsOne (threads : List Thread) (o : Transition) : Type 0 where
 
 module _ (slots : ℕ) (w : World) (p : Process) (passes : ℕ) (body : List Stmt) (shared : SharedState) (t : Thread) where
   -- each case sends one request, or none
-  case_sends : {next : NextStatement} {s : Status} {o : Transition} → TransitionCase passes body shared t (others_of slots w p t.id) false next s o → SendsNone o ⊎ SendsOne p.threads o
-  unfolding others_of requests
+  case_sends : {next : NextStatement} {s : Status} {o : Transition} → TransitionCase passes body shared t (environment_of slots w p t.id) false next s o → SendsNone o ⊎ SendsOne p.threads o
+  unfolding environment_of requests
   case_sends (request_sent frame id target is) = inr (record { next = suc frame.pc; id = value_of shared.globals frame id; target = target; is_target = is; is = refl })
   case_sends (fork_handler_called next at call is) = inl (record { named = refl; events = λ id. of_each_phase (λ (w : What). list_any (requests_id id) (w ∷ []) ≡ false) call.func refl refl refl at.phase })
   case_sends _ = inl (record { named = refl; events = λ id. refl })
@@ -61,7 +62,7 @@ module _ (slots : ℕ) (w : World) (p : Process) (passes : ℕ) (body : List Stm
 sends : (script : Script) (config : Config) (w : World) (p : Process) (t : Thread) (choice : Alt) → SendsNone (transition_by script config w p t choice) ⊎ SendsOne p.threads (transition_by script config w p t choice)
 sends script config w p t choice =
     case_sends config.slots w p config.passes (body_at script t.frames) p.shared t
-    (case_of config.passes (body_at script t.frames) p.shared t (others_of config.slots w p t.id) false choice (next_of script t.frames) t.status (λ known. absurd (false≢true known)))
+    (case_of config.passes (body_at script t.frames) p.shared t (environment_of config.slots w p t.id) false choice (next_of script t.frames) t.status (λ known. absurd (false≢true known)))
 
 -- ---- a thread
 
@@ -78,17 +79,17 @@ own_pending o t = after_action o.own _ ∙ going_on_keeps (λ (u : Thread). u.pe
 -- an action that sends no request changes none
 quiet_action : (a : Option NamedAction) → sends_none a ≡ true → (t : Thread) → (named_after a t).pending ≡ t.pending
 unfolding named_after
-quiet_action (Some (named_action.EndJoin id)) is t = either_keeps (λ (u : Thread). u.pending) (is_live_thread id t) (record t { joined = true }) t t refl refl
+quiet_action (Some (named_action.EndJoin id)) is t = either_keeps (λ (u : Thread). u.pending) (has_valid_id id t) (record t { joined = true }) t t refl refl
 quiet_action (Some (named_action.Request id)) is t = absurd (false≢true is)
-quiet_action (Some (named_action.Detach id)) is t = either_keeps (λ (u : Thread). u.pending) (is_live_thread id t) (record t { detached = true }) t t refl refl
-quiet_action (Some (named_action.Wake id)) is t = either_keeps (λ (u : Thread). u.pending) (is_live_thread id t) (record t { status = unblocked cause.Signalled t.status }) t t refl refl
+quiet_action (Some (named_action.Detach id)) is t = either_keeps (λ (u : Thread). u.pending) (has_valid_id id t) (record t { detached = true }) t t refl refl
+quiet_action (Some (named_action.Wake id)) is t = either_keeps (λ (u : Thread). u.pending) (has_valid_id id t) (record t { status = unblocked cause.Signalled t.status }) t t refl refl
 quiet_action (Some (named_action.WakeAll c)) is t = either_keeps (λ (u : Thread). u.pending) (is_waiting_on c t.status) (record t { status = unblocked cause.Broadcast t.status }) t t refl refl
 quiet_action _ is t = refl
 
 -- a request becomes pending for the thread that it names, unless that has ended
-request_action : (id : ℕ) (t : Thread) → (named_after (Some (named_action.Request id)) t).pending ≡ ((is_live_thread id t && not t.ended) || t.pending)
+request_action : (id : ℕ) (t : Thread) → (named_after (Some (named_action.Request id)) t).pending ≡ ((has_valid_id id t && not t.ended) || t.pending)
 unfolding named_after
-request_action id t = by (is_live_thread id t && not t.ended)
+request_action id t = by (has_valid_id id t && not t.ended)
   where
     by : (b : Bool) → (cond b (record t { pending = true }) t).pending ≡ (b || t.pending)
     by true = refl
@@ -113,11 +114,11 @@ module _ (tid : ℕ) (o : Transition) (u : Thread) where
 
   -- a thread that has not ended after a transition had not ended before it
   unended : (thread_moved tid o u).ended ≡ false → u.ended ≡ false
-  unended alive = moved_unended (is_live_thread tid u) (sym same_end ∙ alive)
+  unended alive = moved_unended (has_valid_id tid u) (sym same_end ∙ alive)
 
   -- a request is pending for it until an action names it, as before
   same_pending : (unnamed tid o u).pending ≡ u.pending
-  same_pending = either_keeps (λ (x : Thread). x.pending) (is_live_thread tid u) (moved o u) u u (own_pending o u) refl
+  same_pending = either_keeps (λ (x : Thread). x.pending) (has_valid_id tid u) (moved o u) u u (own_pending o u) refl
 
 -- ---- what is reported
 
@@ -187,19 +188,19 @@ module _ (script : Script) (config : Config) (w : World) (p : Process) (e : Entr
 
     -- the target was made
     target_made : thread_with one.id p ≡ Some one.target
-    target_made = (live_thread one.id p one.target moves.ids.distinct one.is_target).found
+    target_made = (with_valid_id one.id p one.target moves.ids.distinct one.is_target).found
 
     -- a transition keeps the id of a thread
     same_id : (id : ℕ) (u : Thread) → thread_with id p ≡ Some u → (unnamed e.tid o u).id ≡ id
     same_id id u is = ap (λ (f : ℕ × Bool × Bool × Bool). f.0) (unnamed_flags e.tid o u) ∙ eqb-true u.id id (found_passes (λ (x : Thread). nat_eq x.id id) p.threads u is)
 
     -- the thread that the request names, or another one
-    named_pending : (id : ℕ) (u : Thread) → thread_with id p ≡ Some u → (unnamed e.tid o u).ended ≡ false → (same : Bool) → nat_eq one.id id ≡ same → ((is_live_thread one.id (unnamed e.tid o u) && not (unnamed e.tid o u).ended) || u.pending) ≡ (same || u.pending)
+    named_pending : (id : ℕ) (u : Thread) → thread_with id p ≡ Some u → (unnamed e.tid o u).ended ≡ false → (same : Bool) → nat_eq one.id id ≡ same → ((has_valid_id one.id (unnamed e.tid o u) && not (unnamed e.tid o u).ended) || u.pending) ≡ (same || u.pending)
     named_pending id u is alive true same =
         let it : one.id ≡ id = eqb-true one.id id same in
         let named : IsNamed p e.tid t moves.ids.distinct o id = named_by p e.tid t moves.ids.distinct o one.id id one.target one.is_target (eq-eqb id one.id (sym it)) (runs one.target) in
         let target : named.target ≡ u = same_Some named.target u (sym named.made ∙ is) in
-        let live : is_live_thread one.id (unnamed e.tid o u) ≡ true =
+        let live : has_valid_id one.id (unnamed e.tid o u) ≡ true =
         and_from (nat_eq (unnamed e.tid o u).id one.id) (holds_slot (unnamed e.tid o u)) (eq-eqb (unnamed e.tid o u).id one.id (same_id id u is ∙ sym it)) (ap (λ (x : Thread). holds_slot (unnamed e.tid o x)) (sym target) ∙ named.holds) in
         ap₂ (λ (live ended : Bool). (live && not ended) || u.pending) live alive
     named_pending id u is alive false other =
@@ -211,7 +212,7 @@ module _ (script : Script) (config : Config) (w : World) (p : Process) (e : Entr
     unfolding requests
     one_by id (was_made u is new) = λ here alive.
         ap (λ (x : Transition). (named_after x.named (unnamed e.tid o u)).pending) (sym one.is) ∙ request_action one.id (unnamed e.tid o u)
-        ∙ ap (λ (b : Bool). (is_live_thread one.id (unnamed e.tid o u) && not (unnamed e.tid o u).ended) || b) (same_pending e.tid o u)
+        ∙ ap (λ (b : Bool). (has_valid_id one.id (unnamed e.tid o u) && not (unnamed e.tid o u).ended) || b) (same_pending e.tid o u)
         ∙ named_pending id u is (sym (same_end e.tid o u) ∙ alive) (nat_eq one.id id) refl
         ∙ ap₂ (λ (a b : Bool). a || b) (sym (is_sent id)) (made_before id u is here alive)
     one_by id (is_new new is makes named) = absurd (none-some new (ap (λ (x : Transition). x.created) one.is ∙ makes))

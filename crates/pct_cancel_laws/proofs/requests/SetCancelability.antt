@@ -1,6 +1,6 @@
 -- A step leaves its thread the cancelability state and type that its events say.
-use Rattle.pct_names.proofs.Names.{ap, body_at, Bool, cond, Config, Entry, is_live_thread, List, Mode, moved, NextStatement}
-use Rattle.pct_names.proofs.Names.{Others, others_of, own_after, Process, refl, Run, run, Script, SharedState, Some, State, Status, Stmt}
+use Rattle.pct_names.proofs.Names.{ap, body_at, Bool, cond, Config, Entry, Environment, environment_of, has_valid_id, List, Mode, moved}
+use Rattle.pct_names.proofs.Names.{NextStatement, own_after, Process, refl, Run, run, Script, SharedState, Some, State, Status, Stmt}
 use Rattle.pct_names.proofs.Names.{Thread, thread_at, thread_moved, Transition, transition_by, true, What, ℕ, ◌∙◌, ◌≡◌}
 use Rattle.pct_laws.specs.AfterAll.{after_all}
 use Rattle.pct_laws.specs.CancelLaw.{mode_after, SetsCancelability, state_after}
@@ -20,9 +20,9 @@ cancelability t = (t.state, t.mode)
 abbrev after_events : List What → State × Mode → State × Mode
 after_events events c = (after_all state_after events c.0, after_all mode_after events c.1)
 
-module _ (passes : ℕ) (body : List Stmt) (shared : SharedState) (t : Thread) (others : Others) where
+module _ (passes : ℕ) (body : List Stmt) (shared : SharedState) (t : Thread) (environment : Environment) where
   -- a transition leaves the thread those that its events say
-  case_sets : {next : NextStatement} {s : Status} {o : Transition} → TransitionCase passes body shared t others true next s o → cancelability (moved o t) ≡ after_events o.events (cancelability t)
+  case_sets : {next : NextStatement} {s : Status} {o : Transition} → TransitionCase passes body shared t environment true next s o → cancelability (moved o t) ≡ after_events o.events (cancelability t)
   unfolding thread_at own_after
   case_sets (fork_handler_called next at call is) = of_each_phase (λ (w : What). cancelability t ≡ (state_after w t.state, mode_after w t.mode)) call.func refl refl refl at.phase
   case_sets _ = refl
@@ -34,11 +34,11 @@ module _ (script : Script) (config : Config) where
   sets_of_step before r is e p t taken =
       let o : Transition = transition_by script config r.world p t e.alt in
       let moves : Moves script config r.world p e t = moves_of_run script config before r is e p t taken in
-      let live : is_live_thread e.tid t ≡ true = (mover script config r.world p e t moves).live in
+      let live : has_valid_id e.tid t ≡ true = (mover script config r.world p e t moves).valid in
       let sets : cancelability (thread_moved e.tid o t) ≡ after_events o.events (cancelability t) =
-      named_keeps cancelability (λ t j p d k s same. refl) o.named (cond (is_live_thread e.tid t) (moved o t) t)
+      named_keeps cancelability (λ t j p d k s same. refl) o.named (cond (has_valid_id e.tid t) (moved o t) t)
       ∙ ap (λ (b : Bool). cancelability (cond b (moved o t) t)) live
-      ∙ case_sets config.passes (body_at script t.frames) p.shared t (others_of config.slots r.world p t.id) (case_of_step script config r.world p e t moves) in
+      ∙ case_sets config.passes (body_at script t.frames) p.shared t (environment_of config.slots r.world p t.id) (case_of_step script config r.world p e t moves) in
       record { state = ap (λ (c : State × Mode). c.0) sets; mode = ap (λ (c : State × Mode). c.1) sets }
 
   -- each step of every run sets the cancelability of its thread as its events say

@@ -1,8 +1,8 @@
 -- A transition of a thread, and the condition wait of the thread: its events follow in the wait, and the wait is unfinished after it exactly
 -- if the thread is in it then.
-use Rattle.pct_names.proofs.Names.{◌&&◌, [], acts, Alt, and_from, and_parts, ap, ap₂, body_at, Bool, Cause, cond, Config, false, false≢true}
-use Rattle.pct_names.proofs.Names.{Frame, has_left_wait, is_live_thread, is_waiting_on, List, moved, named_after, NamedAction}
-use Rattle.pct_names.proofs.Names.{nat_eq, next_of, NextStatement, not, Option, Others, others_of, own_after, Process, refl, reverse}
+use Rattle.pct_names.proofs.Names.{◌&&◌, [], acts, Alt, and_from, and_parts, ap, ap₂, body_at, Bool, Cause, cond, Config, Environment}
+use Rattle.pct_names.proofs.Names.{environment_of, false, false≢true, Frame, has_left_wait, has_valid_id, is_waiting_on, List, moved}
+use Rattle.pct_names.proofs.Names.{named_after, NamedAction, nat_eq, next_of, NextStatement, not, Option, own_after, Process, refl, reverse}
 use Rattle.pct_names.proofs.Names.{Script, SharedState, Some, Status, Stmt, subst, subst₂, sym, Thread, thread_at, Transition}
 use Rattle.pct_names.proofs.Names.{transition_by, true, unblocked, What, while_called, World, ◌||◌, ℕ, ◌∙◌, ◌∷◌, ◌≡◌}
 use Rattle.std.proofs.Common.{eq-eqb, eqb-true}
@@ -13,7 +13,7 @@ use Rattle.pct_model.specs.declared.state.Status.TheVariants as status
 use Rattle.pct_model.specs.declared.transition.NamedAction.TheVariants as named_action
 use Rattle.pct_model.specs.declared.transition.OwnAction.TheVariants as own_action
 use Rattle.pct_laws.specs.Kept.{WaitKept, is_leaving}
-use Rattle.pct_laws.specs.WaitStages.{WaitStage, NoWait, AtCall, InWait, Leaving, LeavingSignal, stage_after, wait_stage, may_follow}
+use Rattle.pct_laws.specs.WaitStages.{WaitStage, NoWait, AtCall, InWait, Leaving, LeavingSignal, stage_after, wait_stage, may_follow_stage}
 use Rattle.pct_transition_cases.proofs.CaseOfTransition.{case_of}
 use Rattle.pct_transition_cases.proofs.PlacedStatements.{IsPlaced, is_placed, statement_placed}
 use Rattle.pct_transition_cases.proofs.TransitionCases.{TransitionCase, rests, point_begun, wait_ended, canceled_in_wait}
@@ -34,7 +34,7 @@ stage_reading tid = is_thread_reading stage tid (λ pid events. wait_stage pid t
 
 -- each of some events of a thread, newest first, may follow those before it
 abbrev pub all_follow : List What → WaitStage → Bool
-all_follow added k = all_may stage (λ w now. may_follow now w) added k
+all_follow added k = all_may stage (λ w now. may_follow_stage now w) added k
 
 -- a transition of a thread whose wait is at a stage
 pub record KeepsWait (t : Thread) (k : WaitStage) (o : Transition) : Type 0 where
@@ -74,7 +74,7 @@ wait_is_over c m _ is = absurd (false≢true is)
 
 -- ---- a transition
 
-module _ (script : Script) (passes : ℕ) (shared : SharedState) (t : Thread) (others : Others) where
+module _ (script : Script) (passes : ℕ) (shared : SharedState) (t : Thread) (environment : Environment) where
   -- the thread, with a status and frames
   abbrev own : Status → List Frame → Thread
   own s frames = record t { status = s; frames = frames }
@@ -84,7 +84,7 @@ module _ (script : Script) (passes : ℕ) (shared : SharedState) (t : Thread) (o
   at_stage u o known is keeps = subst (λ (k : WaitStage). KeepsWait u k o) (sym is) keeps
 
   case_keeps : {frames : List Frame} {body : List Stmt} {next : NextStatement} {s : Status} {o : Transition} (k : WaitStage) → IsPlaced script frames body next
-      → TransitionCase passes body shared t others false next s o → WaitKept s k → KeepsWait (own s frames) k o
+      → TransitionCase passes body shared t environment false next s o → WaitKept s k → KeepsWait (own s frames) k o
   unfolding thread_at own_after
   case_keeps k place (rests next s alive) is = record { own = is; lawful = refl }
   case_keeps {frames} k place (point_begun frame index required unasked) is =
@@ -107,8 +107,8 @@ module _ (script : Script) (passes : ℕ) (shared : SharedState) (t : Thread) (o
 -- a transition of a thread, by any choice
 pub transition_keeps : (script : Script) (config : Config) (w : World) (p : Process) (t : Thread) (k : WaitStage) (choice : Alt) → WaitKept t.status k → KeepsWait t k (transition_by script config w p t choice)
 transition_keeps script config w p t k choice is =
-    let others : Others = others_of config.slots w p t.id in
-    case_keeps script config.passes p.shared t others k (is_placed script t.frames) (case_of config.passes (body_at script t.frames) p.shared t others false choice (next_of script t.frames) t.status (λ known. absurd (false≢true known))) is
+    let environment : Environment = environment_of config.slots w p t.id in
+    case_keeps script config.passes p.shared t environment k (is_placed script t.frames) (case_of config.passes (body_at script t.frames) p.shared t environment false choice (next_of script t.frames) t.status (λ known. absurd (false≢true known))) is
 
 -- ---- a thread that another one unblocks
 
@@ -125,9 +125,9 @@ either false changed t k first second = second
 -- an action of another thread
 pub named_keeps_wait : (a : Option NamedAction) (t : Thread) (k : WaitStage) → WaitKept t.status k → WaitKept (named_after a t).status k
 unfolding named_after
-named_keeps_wait (Some (named_action.EndJoin id)) t k is = either (is_live_thread id t) (record t { joined = true }) t k is is
-named_keeps_wait (Some (named_action.Request id)) t k is = either (is_live_thread id t && not t.ended) (record t { pending = true }) t k is is
-named_keeps_wait (Some (named_action.Detach id)) t k is = either (is_live_thread id t) (record t { detached = true }) t k is is
-named_keeps_wait (Some (named_action.Wake id)) t k is = either (is_live_thread id t) (record t { status = unblocked cause.Signalled t.status }) t k (unblocked_stays cause.Signalled refl t.status k is) is
+named_keeps_wait (Some (named_action.EndJoin id)) t k is = either (has_valid_id id t) (record t { joined = true }) t k is is
+named_keeps_wait (Some (named_action.Request id)) t k is = either (has_valid_id id t && not t.ended) (record t { pending = true }) t k is is
+named_keeps_wait (Some (named_action.Detach id)) t k is = either (has_valid_id id t) (record t { detached = true }) t k is is
+named_keeps_wait (Some (named_action.Wake id)) t k is = either (has_valid_id id t) (record t { status = unblocked cause.Signalled t.status }) t k (unblocked_stays cause.Signalled refl t.status k is) is
 named_keeps_wait (Some (named_action.WakeAll c)) t k is = either (is_waiting_on c t.status) (record t { status = unblocked cause.Broadcast t.status }) t k (unblocked_stays cause.Broadcast refl t.status k is) is
 named_keeps_wait _ t k is = is

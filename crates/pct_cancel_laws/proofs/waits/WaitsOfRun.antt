@@ -6,7 +6,7 @@ use Rattle.pct_laws.specs.Each.{each}
 use Rattle.pct_laws.specs.CondLaw.{waits_allow, hand_ons_allow}
 use Rattle.pct_laws.specs.Kept.{WaitKept, is_wait_call, is_release}
 use Rattle.pct_laws.specs.FollowedEvents.{are_followed}
-use Rattle.pct_laws.specs.WaitStages.{WaitStage, NoWait, wait_stage, may_follow}
+use Rattle.pct_laws.specs.WaitStages.{WaitStage, NoWait, wait_stage, may_follow_stage}
 use Rattle.pct_thread_invariants.proofs.lift.TakenSteps.{IsTaken, with_step, AfterEveryRun, every_run}
 use Rattle.pct_thread_invariants.proofs.lift.ThreadsAfter.{Moves, mover}
 use Rattle.pct_thread_invariants.proofs.lift.EveryProcess.{process_taken, moves_of_run}
@@ -43,7 +43,7 @@ module _ (script : Script) (config : Config) where
       let k : WaitStage = reported_by (of_thread stage e.tid) e.pid r.events in
       let made = ap (option_and_then (thread_with e.tid)) (process_taken script config before r is e p t taken) ∙ m.found in
       let in_wait : IsInWait t k = of_made_thread stage IsInWait r (waits_fit before r is) e.pid e.tid t made m.here in
-      each_later stage (λ w now. may_follow now w) wait_stage stage_reading e r.events (reverse (transition_by script config r.world p t e.alt).events) (transition_keeps script config r.world p t k e.alt in_wait).lawful law
+      each_later stage (λ w now. may_follow_stage now w) wait_stage stage_reading e r.events (reverse (transition_by script config r.world p t e.alt).events) (transition_keeps script config r.world p t k e.alt in_wait).lawful law
 
   -- the law of condition waits
   pub waits_of_run : AfterEveryRun script config (λ r. each waits_allow r.events ≡ true)

@@ -1,11 +1,11 @@
 -- The law of creation, of processes: a step makes the processes that its events report, and each is a child of the process of its thread,
 -- with the replica of the thread.
-use Rattle.pct_names.proofs.Names.{[], after_transition, All, All-from_recursion, AllByRecursion, ap, Bool, child_by, child_of, cond}
-use Rattle.pct_names.proofs.Names.{Config, drop, Entry, false, false≢true, filter, find, flat_map, ForkAt, Forking, forks_by, holds_slot, in_child}
-use Rattle.pct_names.proofs.Names.{inherited, is_ended_status, is_last, is_live_thread, Legal, length, List, list_all, list_any}
-use Rattle.pct_names.proofs.Names.{made_process, map, nat_eq, NextStatement, None, none-some, not, Option, Others, Phase, Prepare, Process}
-use Rattle.pct_names.proofs.Names.{process_moved, refl, replica_of, Run, run, Script, SharedState, Some, Status, step, Stmt, subst, sym}
-use Rattle.pct_names.proofs.Names.{take, Thread, Transition, transition_by, true, What, with_id, ℕ, ◌&&◌, ◌++◌, ◌||◌, ◌∙◌, ◌∷◌, ◌≡◌}
+use Rattle.pct_names.proofs.Names.{◌&&◌, ◌++◌, [], after_transition, All, All-from_recursion, AllByRecursion, ap, Bool, child_by, child_of}
+use Rattle.pct_names.proofs.Names.{cond, Config, drop, Entry, Environment, false, false≢true, filter, find, flat_map, ForkAt, Forking}
+use Rattle.pct_names.proofs.Names.{forks_by, has_valid_id, holds_slot, in_child, inherited, is_ended_status, is_last, Legal, length, List}
+use Rattle.pct_names.proofs.Names.{list_all, list_any, made_process, map, nat_eq, NextStatement, None, none-some, not, Option, Phase}
+use Rattle.pct_names.proofs.Names.{Prepare, Process, process_moved, refl, replica_of, Run, run, Script, SharedState, Some, Status, step}
+use Rattle.pct_names.proofs.Names.{Stmt, subst, sym, take, Thread, Transition, transition_by, true, What, with_id, ◌||◌, ℕ, ◌∙◌, ◌∷◌, ◌≡◌}
 use Rattle.std.proofs.Common.{eqb-true, eq-eqb}
 use Rattle.pct_laws.specs.CreationLaw.{CreatesProcesses, IsChild, is_another, process_of, status_in_child, status_in_child_by}
 use Rattle.pct_laws.specs.ProcessSteps.{EachStepOfProcesses}
@@ -31,7 +31,7 @@ use Rattle.pct_creation_laws.proofs.creations.NewItems.{first_items, new_items}
 -- ---- the events of a transition
 
 -- a transition that makes no process reports none
-case_quiet : {passes : ℕ} {body : List Stmt} {shared : SharedState} {t : Thread} {others : Others} {next : NextStatement} {s : Status} {o : Transition} → TransitionCase passes body shared t others true next s o
+case_quiet : {passes : ℕ} {body : List Stmt} {shared : SharedState} {t : Thread} {environment : Environment} {next : NextStatement} {s : Status} {o : Transition} → TransitionCase passes body shared t environment true next s o
     → (tid : ℕ) (p : Process) → child_by tid p o.process ≡ [] → flat_map process_of o.events ≡ []
 unfolding child_by
 case_quiet (process_forked next at new prepares is) tid p none = absurd (cc)
@@ -66,11 +66,11 @@ module _ (tid : ℕ) where
   one_heir threads t distinct is =
       heirs_are threads
       ∙ only_one_gives (λ (u : Thread). u.id) heir holds_slot tid (λ u other. ap (λ b. filter is_there (cond b (replica_of u) (record u { gone = true }) ∷ [])) other) threads t distinct is
-      ∙ ap (λ b. filter is_there (cond b (replica_of t) (record t { gone = true }) ∷ [])) (found_passes (is_live_thread tid) threads t is)
+      ∙ ap (λ b. filter is_there (cond b (replica_of t) (record t { gone = true }) ∷ [])) (found_passes (has_valid_id tid) threads t is)
 
 -- ---- other threads
 
--- a thread is another one that has not ended, exactly if it is not one of those that the last thread leaves behind
+-- a thread is another one that has not ended, exactly if it is not one of those that the last thread leaves
 another_by : (gone is_end reclaimed ended same : Bool) → (gone ≡ false → is_end ≡ true → ended ≡ true)
     → not (not (not gone && not (is_end && reclaimed)) || (ended || same)) ≡ (not gone && not ended && not same)
 another_by true is_end reclaimed ended same by_status = refl
@@ -82,14 +82,14 @@ another_by false false reclaimed false same by_status = refl
 
 -- not each item passes a test, exactly if one passes the other
 not_all : (a b rest some : Bool) → not a ≡ b → not rest ≡ some → not (a && rest) ≡ (b || some)
-not_all true b rest some first others = others ∙ ap (λ x. x || some) first
-not_all false b rest some first others = ap (λ x. x || some) first
+not_all true b rest some first environment = environment ∙ ap (λ x. x || some) first
+not_all false b rest some first environment = ap (λ x. x || some) first
 
 module _ (test other : Thread → Bool) where
-  -- what is found behind another thread, with another id
-  found_behind : (first : Thread) (rest : List Thread) → list_any (λ m. nat_eq m first.id) (ids_of rest) ≡ false → (id : ℕ) (t : Thread) → find (λ u. nat_eq u.id id) rest ≡ Some t
+  -- what is found after another thread, with another id
+  found_after : (first : Thread) (rest : List Thread) → list_any (λ m. nat_eq m first.id) (ids_of rest) ≡ false → (id : ℕ) (t : Thread) → find (λ u. nat_eq u.id id) rest ≡ Some t
       → find (λ u. nat_eq u.id id) (first ∷ rest) ≡ Some t
-  found_behind first rest absent id t is = by_id (nat_eq first.id id) refl
+  found_after first rest absent id t is = by_id (nat_eq first.id id) refl
     where
       by_id : (same : Bool) → nat_eq first.id id ≡ same → cond same (Some first) (find (λ u. nat_eq u.id id) rest) ≡ Some t
       by_id true same =
@@ -102,7 +102,7 @@ module _ (test other : Thread → Bool) where
   one_fails (t ∷ threads) distinct each =
       not_all (test t) (other t) (list_all test threads) (list_any other threads)
       (each t.id t (ap (λ b. cond b (Some t) (find (λ u. nat_eq u.id t.id) threads)) (eq-eqb t.id t.id refl)))
-      (one_fails threads distinct.1 (λ id u is. each id u (found_behind t threads distinct.0 id u is)))
+      (one_fails threads distinct.1 (λ id u is. each id u (found_after t threads distinct.0 id u is)))
 
 -- ---- the child
 
@@ -111,10 +111,10 @@ child_lawful : (s : ThreadStep) (new : ℕ) → s.process.pid ≡ s.pid → AreD
     → not (is_last s.tid s.process.threads) ≡ list_any (is_another s.tid) s.process.threads → (at : ForkAt) → s.before.status ≡ Forking at → at.phase ≡ Prepare
     → IsChild s (child_of s.tid new s.process)
 unfolding child_of
-child_lawful s new pid distinct is others at forking prepares = record {
+child_lawful s new pid distinct is environment at forking prepares = record {
   parent = pid;
   runs = refl;
-  copy = ap (λ (b : Bool). record s.process.shared { exit_value = None; restricted = b }) others;
+  copy = ap (λ (b : Bool). record s.process.shared { exit_value = None; restricted = b }) environment;
   thread = replica_of s.before;
   alone = one_heir s.tid s.process.threads s.before distinct is;
   is_replica = record {
@@ -143,8 +143,8 @@ module _ (script : Script) (config : Config) where
     process_is = process_taken script config before r is e p t taken
 
     -- another thread that has not ended
-    others_are : not (is_last e.tid p.threads) ≡ list_any (is_another e.tid) p.threads
-    others_are = one_fails (λ u. not (holds_slot u) || (u.ended || nat_eq u.id e.tid)) (is_another e.tid) p.threads moves.ids.distinct (λ id u found.
+    environment_is : not (is_last e.tid p.threads) ≡ list_any (is_another e.tid) p.threads
+    environment_is = one_fails (λ u. not (holds_slot u) || (u.ended || nat_eq u.id e.tid)) (is_another e.tid) p.threads moves.ids.distinct (λ id u found.
         another_by u.gone (is_ended_status u.status) (u.joined || u.detached) u.ended (nat_eq u.id e.tid) (λ here is_end.
         let rule = of_its_threads summary (FitsAny script config.passes) r (threads_fit script config before r is) e.pid p process_is id u found here in
         sym rule.1.agrees.end ∙ ended_by_status script u.status u.reason u.frames u.handlers rule.0 is_end rule.1.by_status))
@@ -161,7 +161,7 @@ module _ (script : Script) (config : Config) where
       new_lawful : {made_id : Option ℕ} → Makes r.world t.status o made_id → Lawful (child_made e.tid p made_id)
       unfolding forks_by child_of
       new_lawful (makes_none nothing quiet) = (sym (case_quiet (case_of_step script config r.world p e t moves) e.tid p (nothing e.tid p)), tt)
-      new_lawful (forks new fork) = (ap (λ (x : Transition). flat_map process_of x.events) (sym fork.is), (child_lawful made new (eqb-true p.pid e.pid (found_passes (λ (q : Process). nat_eq q.pid e.pid) r.world.processes p process_is)) moves.ids.distinct taken.is_thread others_are fork.at fork.in_fork fork.prepares, tt))
+      new_lawful (forks new fork) = (ap (λ (x : Transition). flat_map process_of x.events) (sym fork.is), (child_lawful made new (eqb-true p.pid e.pid (found_passes (λ (q : Process). nat_eq q.pid e.pid) r.world.processes p process_is)) moves.ids.distinct taken.is_thread environment_is fork.at fork.in_fork fork.prepares, tt))
 
       processes_of_step : CreatesProcesses made r.world.processes (after_transition e.pid e.tid o r.world).processes
       processes_of_step =

@@ -1,9 +1,8 @@
 -- The law of creation, of threads: a step makes the threads that its events report, and each is one that pthread_create makes.
-use Rattle.pct_names.proofs.Names.{[], All, All-from_recursion, AllByRecursion, ap, Bool, changed, Config, drop, Entry, flat_map}
-use Rattle.pct_names.proofs.Names.{length, List, map, new_frame, NewThread, next_of, NextStatement, None, none-some, Option, Others}
-use Rattle.pct_names.proofs.Names.{Process, refl, Run, run, same_Some, Script, SharedState, Some, Start, Status, Stmt, subst, sym}
-use Rattle.pct_names.proofs.Names.{take, Thread, thread_created, thread_moved, Transition, transition_by, true, value_of, What, ℕ, ◌∙◌}
-use Rattle.pct_names.proofs.Names.{◌∷◌, ◌≡◌}
+use Rattle.pct_names.proofs.Names.{[], All, All-from_recursion, AllByRecursion, ap, Bool, changed, Config, drop, Entry, Environment}
+use Rattle.pct_names.proofs.Names.{flat_map, length, List, map, new_frame, NewThread, next_of, NextStatement, None, none-some, Option}
+use Rattle.pct_names.proofs.Names.{Process, refl, Run, run, same_Some, Script, SharedState, Some, Start, Status, Stmt, subst, sym, take}
+use Rattle.pct_names.proofs.Names.{Thread, thread_created, thread_moved, Transition, transition_by, true, value_of, What, ℕ, ◌∙◌, ◌∷◌, ◌≡◌}
 use Rattle.pct_model.specs.declared.state.FrameKind.TheVariants as kind
 use Rattle.pct_laws.specs.CreationLaw.{CreatesThreads, frames_at_start, IsCreated, thread_of}
 use Rattle.pct_transition_cases.proofs.TransitionCases.{TransitionCase, thread_made, fork_handler_called}
@@ -24,7 +23,7 @@ data Creates (globals : List ℕ) (next : NextStatement) (o : Transition) : Type
   creates_one : (new : NewThread) → o.created ≡ Some new → flat_map thread_of o.events ≡ (new.id, new.detached) ∷ []
       → frames_at_start globals next ≡ Some (new_frame new.func new.arg kind.Start ∷ []) → Creates globals next o
 
-case_creates : {passes : ℕ} {body : List Stmt} {shared : SharedState} {t : Thread} {others : Others} {next : NextStatement} {s : Status} {o : Transition} → TransitionCase passes body shared t others true next s o
+case_creates : {passes : ℕ} {body : List Stmt} {shared : SharedState} {t : Thread} {environment : Environment} {next : NextStatement} {s : Status} {o : Transition} → TransitionCase passes body shared t environment true next s o
     → Creates shared.globals next o
 case_creates {shared = shared} (thread_made frame result id f v detached n among) =
     creates_one (record { id = n; detached = detached; func = f; arg = value_of shared.globals frame v }) refl refl refl

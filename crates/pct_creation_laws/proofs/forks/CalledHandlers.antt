@@ -1,9 +1,9 @@
 -- The law of fork handlers, of each step of a run.
-use Rattle.pct_names.proofs.Names.{[], All-from_recursion, AllByRecursion, ap, body_at, Bool, cond, Config, ends, Entry, false, false≢true}
-use Rattle.pct_names.proofs.Names.{ForkAt, handler_event, inl, inr, is_forking, is_live_thread, is_some, List, list_any, moved, next_of}
-use Rattle.pct_names.proofs.Names.{None, none-some, option_and_then, or_parts, Others, others_of, Parent, Phase, Prepare, Process, refl}
-use Rattle.pct_names.proofs.Names.{Run, run, same_Some, Script, Some, Status, subst, sym, Thread, thread_moved, thread_with, Transition}
-use Rattle.pct_names.proofs.Names.{transition_by, true, What, while_called, ℕ, ◌∙◌, ◌∷◌, ◌≡◌, ◌≢◌, ◌⊎◌}
+use Rattle.pct_names.proofs.Names.{[], All-from_recursion, AllByRecursion, ap, body_at, Bool, cond, Config, ends, Entry, Environment}
+use Rattle.pct_names.proofs.Names.{environment_of, false, false≢true, ForkAt, handler_event, has_valid_id, inl, inr, is_forking, is_some}
+use Rattle.pct_names.proofs.Names.{List, list_any, moved, next_of, None, none-some, option_and_then, or_parts, Parent, Phase, Prepare}
+use Rattle.pct_names.proofs.Names.{Process, refl, Run, run, same_Some, Script, Some, Status, subst, sym, Thread, thread_moved, thread_with}
+use Rattle.pct_names.proofs.Names.{Transition, transition_by, true, What, while_called, ℕ, ◌∙◌, ◌∷◌, ◌≡◌, ◌≢◌, ◌⊎◌}
 use Rattle.pct_model.specs.declared.event.What.TheVariants as what
 use Rattle.pct_model.specs.declared.state.Phase.TheVariants as phase
 use Rattle.pct_laws.specs.ForkLaw.{is_handler_call, CallsHandler, EachHandler, fork_by, fork_of, ForksWithNoneLeft, KeepsFork, left_to_call}
@@ -14,7 +14,7 @@ use Rattle.pct_transition_cases.proofs.PlacedStatements.{is_placed}
 use Rattle.pct_thread_invariants.proofs.lift.ChangedThreads.{named_keeps, same_settled}
 use Rattle.pct_thread_invariants.proofs.lift.EveryProcess.{moves_of_run, process_taken}
 use Rattle.pct_thread_invariants.proofs.lift.HandlerEvents.{of_each_phase}
-use Rattle.pct_thread_invariants.proofs.lift.MadeThreads.{IsLive}
+use Rattle.pct_thread_invariants.proofs.lift.MadeThreads.{HasValidId}
 use Rattle.pct_thread_invariants.proofs.lift.MovedThreads.{EveryStep, step_of, case_of_step, every_step}
 use Rattle.pct_thread_invariants.proofs.lift.TakenSteps.{IsTaken}
 use Rattle.pct_thread_invariants.proofs.lift.ThreadsAfter.{Moves, mover}
@@ -52,8 +52,8 @@ module _ (script : Script) (config : Config) where
     abbrev o : Transition
     o = transition_by script config r.world p t e.alt
 
-    abbrev others : Others
-    others = others_of config.slots r.world p t.id
+    abbrev environment : Environment
+    environment = environment_of config.slots r.world p t.id
 
     abbrev s : ThreadStep
     s = step_of script config r p e t
@@ -63,13 +63,13 @@ module _ (script : Script) (config : Config) where
 
     after_is : fork_of (thread_moved e.tid o t) ≡ fork_of (moved o t)
     after_is =
-        named_keeps fork_of (λ t joined pending detached specific s same. same_settled (λ (st : Status). fork_by st t.kept) (λ c m why. refl) s t.status same) o.named (cond (is_live_thread e.tid t) (moved o t) t)
-        ∙ ap (λ (b : Bool). fork_of (cond b (moved o t) t)) (mover script config r.world p e t moves).live
+        named_keeps fork_of (λ t joined pending detached specific s same. same_settled (λ (st : Status). fork_by st t.kept) (λ c m why. refl) s t.status same) o.named (cond (has_valid_id e.tid t) (moved o t) t)
+        ∙ ap (λ (b : Bool). fork_of (cond b (moved o t) t)) (mover script config r.world p e t moves).valid
 
     -- it keeps the values of a fork exactly if it is in a fork handler
     keeps : is_some t.kept ≡ is_in_fork_handler t.status t.frames
     keeps =
-        let it : IsLive p e.tid t = mover script config r.world p e t moves in
+        let it : HasValidId p e.tid t = mover script config r.world p e t moves in
         (forks_of_run script config before r is e.pid e.tid t (ap (option_and_then (thread_with e.tid)) (process_taken script config before r is e p t taken) ∙ it.found) it.here).keeps
 
     none_kept : HasNone t.status t.kept
@@ -77,10 +77,10 @@ module _ (script : Script) (config : Config) where
 
     -- what the step does to the fork of its thread
     abbrev Steps : Type 0
-    Steps = ForkStep config.passes (body_at script t.frames) p.shared t others (next_of script t.frames) t.status o.events (fork_of t) (fork_of (moved o t))
+    Steps = ForkStep config.passes (body_at script t.frames) p.shared t environment (next_of script t.frames) t.status o.events (fork_of t) (fork_of (moved o t))
 
     step : Steps
-    step = fork_step config.passes (body_at script t.frames) p.shared t others (case_of_step script config r.world p e t moves) none_kept (goes_on_by config.passes (body_at script t.frames) p.shared t others e.alt (next_of script t.frames) t.status)
+    step = fork_step config.passes (body_at script t.frames) p.shared t environment (case_of_step script config r.world p e t moves) none_kept (goes_on_by config.passes (body_at script t.frames) p.shared t environment e.alt (next_of script t.frames) t.status)
 
     called_by : Steps → AllByRecursion (λ w. EachHandler w s) o.events
     called_by (fork_begins call other no_events) = subst (AllByRecursion (λ w. EachHandler w s)) (sym no_events) tt
@@ -142,12 +142,12 @@ module _ (script : Script) (config : Config) where
 
     forks_of_step : KeepsFork script s
     forks_of_step = record {
-      begun = λ calls goes. after_is ∙ begins_by config.passes (body_at script t.frames) p.shared t others e.alt (next_of script t.frames) t.status calls goes;
+      begun = λ calls goes. after_is ∙ begins_by config.passes (body_at script t.frames) p.shared t environment e.alt (next_of script t.frames) t.status calls goes;
       called = All-from_recursion _ _ (called_by step);
       made = made_by step;
       returned = λ fork in_fork was none. returned_by step fork in_fork was (sym after_is ∙ none);
       resumed = λ outside no_call stays.
-          after_is ∙ fork_resumes config.passes p.shared t others (is_placed script t.frames) (case_of_step script config r.world p e t moves) keeps outside no_call stays;
+          after_is ∙ fork_resumes config.passes p.shared t environment (is_placed script t.frames) (case_of_step script config r.world p e t moves) keeps outside no_call stays;
       kept = λ no_call no_answer quiet. elim (kept_by step no_call no_answer quiet) [
         | inl same ↦ inl (after_is ∙ same)
         | inr left ↦ inr (after_is ∙ left)

@@ -1,11 +1,11 @@
 -- What a transition does to the fork of its thread.
-use Rattle.pct_names.proofs.Names.{[], acts_on_request, acts_or, Alt, ap, begins_fork, Bool, calls, calls_handler, cond, Dest, false}
-use Rattle.pct_names.proofs.Names.{false≢true, ForkAt, ForkHandlers, Forking, forks_by, Frame, goes_on_after_handlers, goes_on_forking}
-use Rattle.pct_names.proofs.Names.{handler_event, HandlerCall, inl, inr, is_forking, is_some, length, List, list_any, moved, next_handler}
-use Rattle.pct_names.proofs.Names.{NextStatement, no_change, None, none-some, NoStatement, Option, Others, own_after, OwnAction, Parent}
-use Rattle.pct_names.proofs.Names.{Phase, Prepare, refl, Running, runs, SharedState, Some, StatementIn, Status, Stmt, stop_at, stops_or}
-use Rattle.pct_names.proofs.Names.{suc, sym, Thread, thread_at, Transition, transition_at, true, value, What, while_called, Why, ℕ, ◌∙◌}
-use Rattle.pct_names.proofs.Names.{◌∷◌, ◌≡◌, ◌≢◌, ◌⊎◌}
+use Rattle.pct_names.proofs.Names.{[], acts_on_request, acts_or, Alt, ap, begins_fork, Bool, calls, calls_handler, cond, Dest, Environment}
+use Rattle.pct_names.proofs.Names.{false, false≢true, ForkAt, ForkHandlers, Forking, forks_by, Frame, goes_on_after_handlers}
+use Rattle.pct_names.proofs.Names.{goes_on_forking, handler_event, HandlerCall, inl, inr, is_forking, is_some, length, List, list_any}
+use Rattle.pct_names.proofs.Names.{moved, next_handler, NextStatement, no_change, None, none-some, NoStatement, Option, own_after}
+use Rattle.pct_names.proofs.Names.{OwnAction, Parent, Phase, Prepare, refl, Running, runs, SharedState, Some, StatementIn, Status, Stmt}
+use Rattle.pct_names.proofs.Names.{stop_at, stops_or, suc, sym, Thread, thread_at, Transition, transition_at, true, value, What}
+use Rattle.pct_names.proofs.Names.{while_called, Why, ℕ, ◌∙◌, ◌∷◌, ◌≡◌, ◌≢◌, ◌⊎◌}
 use Rattle.pct_model.specs.declared.schedule.Alt.TheVariants as alt
 use Rattle.pct_model.specs.declared.state.Phase.TheVariants as phase
 use Rattle.pct_model.specs.declared.state.Status.TheVariants as status
@@ -48,7 +48,7 @@ GoesOn registered (status.Forking at) o =
     ⊎ ((next_handler registered at ≡ None) × (at.phase ≡ phase.Prepare → is_some (answer_in o.events) ≡ true))
 GoesOn registered _ o = Unit {0}
 
-module _ (passes : ℕ) (body : List Stmt) (shared : SharedState) (t : Thread) (others : Others) where
+module _ (passes : ℕ) (body : List Stmt) (shared : SharedState) (t : Thread) (environment : Environment) where
   -- a thread with no handler left
   none_goes_on : (at : Phase) (fork : ForkAt) (new_pid : Option ℕ) (next : NextStatement) → at ≡ phase.Prepare → is_some (answer_in (goes_on_after_handlers at fork new_pid next).events) ≡ true
   unfolding forks_by
@@ -58,12 +58,12 @@ module _ (passes : ℕ) (body : List Stmt) (shared : SharedState) (t : Thread) (
   none_goes_on phase.Child fork new_pid next is = absurd (cc)
 
   by_handler : (at : ForkAt) (next : NextStatement) (found : Option HandlerCall) → next_handler shared.fork_handlers at ≡ found
-      → GoesOn shared.fork_handlers (status.Forking at) (goes_on_forking found at others.family.new_pid next)
+      → GoesOn shared.fork_handlers (status.Forking at) (goes_on_forking found at environment.family.new_pid next)
   unfolding calls_handler
   by_handler at next (Some call) is = inr (inl (of_each_phase (λ (w : What). list_any is_handler_call (w ∷ []) ≡ true) call.func refl refl refl at.phase))
-  by_handler at next None is = inr (inr (is, none_goes_on at.phase at others.family.new_pid next))
+  by_handler at next None is = inr (inr (is, none_goes_on at.phase at environment.family.new_pid next))
 
-  pub goes_on_by : (choice : Alt) (next : NextStatement) (s : Status) → GoesOn shared.fork_handlers s (acts_or choice s (transition_at passes body shared t others choice next s))
+  pub goes_on_by : (choice : Alt) (next : NextStatement) (s : Status) → GoesOn shared.fork_handlers s (acts_or choice s (transition_at passes body shared t environment choice next s))
   unfolding transition_at acts_on_request
   goes_on_by (alt.Act n) next (status.Forking at) = inl refl
   goes_on_by choice NoStatement (status.Forking at) = by_handler at NoStatement (next_handler shared.fork_handlers at) refl
@@ -81,11 +81,11 @@ module _ (passes : ℕ) (body : List Stmt) (shared : SharedState) (t : Thread) (
   unless_stopped frame result child None calls goes = refl
   unless_stopped frame result child (Some why) calls goes = absurd (false≢true (sym goes))
 
-  pub begins_by : (choice : Alt) (next : NextStatement) (s : Status) → Begins next s (acts_or choice s (transition_at passes body shared t others choice next s))
+  pub begins_by : (choice : Alt) (next : NextStatement) (s : Status) → Begins next s (acts_or choice s (transition_at passes body shared t environment choice next s))
   unfolding transition_at acts_on_request runs
   begins_by (alt.Act n) (StatementIn frame (statement.Fork result child)) status.Running calls goes = absurd (false≢true (sym goes))
   begins_by choice (StatementIn frame (statement.Fork result child)) status.Running calls goes =
-      unless_stopped frame result child (stop_at body shared t others frame (statement.Fork result child)) calls goes
+      unless_stopped frame result child (stop_at body shared t environment frame (statement.Fork result child)) calls goes
   begins_by choice _ _ calls goes = absurd (false≢true calls)
 
   -- ---- by case
@@ -117,7 +117,7 @@ module _ (passes : ℕ) (body : List Stmt) (shared : SharedState) (t : Thread) (
   has_event : (o : Transition) → is_some (answer_in o.events) ≡ true → o ≡ no_change → ⊥
   has_event o answers same = false≢true (sym (ap (λ (x : Transition). is_some (answer_in x.events)) same) ∙ answers)
 
-  pub fork_step : {next : NextStatement} {s : Status} {o : Transition} → TransitionCase passes body shared t others true next s o → HasNone s t.kept → GoesOn shared.fork_handlers s o
+  pub fork_step : {next : NextStatement} {s : Status} {o : Transition} → TransitionCase passes body shared t environment true next s o → HasNone s t.kept → GoesOn shared.fork_handlers s o
       → ForkStep next s o.events (fork_by s t.kept) (fork_of (moved o (record t { status = s })))
   unfolding own_after thread_at
   fork_step (rests next s alive) none goes = fork_stays false (λ forks. refl) refl refl refl

@@ -1,7 +1,7 @@
 -- A thread that is neither in fork nor calls it keeps its fork: it has one only in a fork handler, which returns to it.
-use Rattle.pct_names.proofs.Names.{ap, false, ForkAt, Frame, FrameKind, inl, inr, is_fork_kind, is_forking, is_some, List, list_any, moved}
-use Rattle.pct_names.proofs.Names.{NextStatement, None, Option, Others, own_after, refl, Script, SharedState, Some, Status, Stmt, sym}
-use Rattle.pct_names.proofs.Names.{Thread, thread_at, Transition, true, ℕ, ◌∙◌, ◌≡◌, ◌⊎◌}
+use Rattle.pct_names.proofs.Names.{ap, Environment, false, ForkAt, Frame, FrameKind, inl, inr, is_fork_kind, is_forking, is_some, List}
+use Rattle.pct_names.proofs.Names.{list_any, moved, NextStatement, None, Option, own_after, refl, Script, SharedState, Some, Status, Stmt}
+use Rattle.pct_names.proofs.Names.{sym, Thread, thread_at, Transition, true, ℕ, ◌∙◌, ◌≡◌, ◌⊎◌}
 use Rattle.std.proofs.lemmas.Bool.{true≢false}
 use Rattle.pct_laws.specs.ForkLaw.{fork_by, fork_of}
 use Rattle.pct_laws.specs.FrameLaw.{leaves_all}
@@ -24,11 +24,11 @@ nothing_kept : (kept : Option ForkAt) → is_some kept ≡ false → None ≡ ke
 nothing_kept None none = refl
 nothing_kept (Some at) none = absurd (true≢false none)
 
-module _ (passes : ℕ) (shared : SharedState) (t : Thread) (others : Others) where
+module _ (passes : ℕ) (shared : SharedState) (t : Thread) (environment : Environment) where
   -- a return from another function than a fork handler finds no fork; by all other transitions of the thread its fork stays, unless it
   -- begins to end or to exit its process
   pub fork_resumes : {script : Script} {frames : List Frame} {body : List Stmt} {next : NextStatement} {s : Status} {o : Transition} → IsPlaced script frames body next
-      → TransitionCase passes body shared t others true next s o → is_some t.kept ≡ is_in_fork_handler s frames → is_forking s ≡ false → calls_fork next s ≡ false
+      → TransitionCase passes body shared t environment true next s o → is_some t.kept ≡ is_in_fork_handler s frames → is_forking s ≡ false → calls_fork next s ≡ false
       → list_any leaves_all o.events ≡ false → fork_of (moved o (record t { status = s })) ≡ fork_by s t.kept
   unfolding own_after thread_at
   fork_resumes placed (fork_handler_left frame s v at returned is kept) keeps outside other stays = sym kept

@@ -31,14 +31,14 @@ get_in_take [] (suc count) n low = refl
 get_in_take (x ∷ xs) (suc count) zero low = refl
 get_in_take (x ∷ xs) (suc count) (suc n) low = get_in_take xs count n (omega (arith, low))
 
--- no item is behind the first ones
-none_behind : {A : Type 0} (xs : List A) (count n : ℕ) → count ≤ n → drop n (take count xs) ≡ []
-none_behind xs zero zero past = refl
-none_behind xs zero (suc n) past = refl
-none_behind [] (suc count) zero past = refl
-none_behind [] (suc count) (suc n) past = refl
-none_behind (x ∷ xs) (suc count) zero past = absurd (omega (arith, past))
-none_behind (x ∷ xs) (suc count) (suc n) past = none_behind xs count n (omega (arith, past))
+-- no item is after the first ones
+none_after : {A : Type 0} (xs : List A) (count n : ℕ) → count ≤ n → drop n (take count xs) ≡ []
+none_after xs zero zero past = refl
+none_after xs zero (suc n) past = refl
+none_after [] (suc count) zero past = refl
+none_after [] (suc count) (suc n) past = refl
+none_after (x ∷ xs) (suc count) zero past = absurd (omega (arith, past))
+none_after (x ∷ xs) (suc count) (suc n) past = none_after xs count n (omega (arith, past))
 
 -- numbers in order, and one more
 range_more : (a n : ℕ) → range_with_len a (suc n) ≡ range_with_len a n ++ (a + n) ∷ []
@@ -60,7 +60,7 @@ module _ {A : Type 0} (h : A → Option ℕ) where
       by_value None = refl
       by_value (Some n) = refl
 
-  -- the same, of the item behind others that are reversed
+  -- the same, of the item after others that are reversed
   made_last : (xs : List A) (o : Option A) → filter_map h (reverse (xs ++ option_to_list o)) ≡ option_to_list (option_and_then h o) ++ filter_map h (reverse xs)
   made_last xs None = ap (filter_map h) (reverse-append xs [])
   made_last xs (Some x) = ap (filter_map h) (reverse-append xs (x ∷ [])) ∙ made_of (Some x) (reverse xs)
@@ -98,7 +98,7 @@ module _ (registered : List ForkHandlers) where
     after n = filter_map (handler_for at) (drop n (take count registered))
 
     next_after : (k n : ℕ) → count - n ≡ k → Next (λ i. after (suc i)) (after n) (slice_get (handlers_among at registered (range_with_len n k)) 0)
-    next_after zero n is = next_none (ap (filter_map (handler_for at)) (none_behind registered count n (omega (arith, is))))
+    next_after zero n is = next_none (ap (filter_map (handler_for at)) (none_after registered count n (omega (arith, is))))
     next_after (suc k) n is =
         let low : n < count = omega (arith, is) in
         next_by (λ i. after (suc i)) n (handler_at at registered n) (after n) (handlers_among at registered (range_with_len n (suc k))) (handlers_among at registered (range_with_len (n + 1) k))

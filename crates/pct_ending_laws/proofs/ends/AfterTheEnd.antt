@@ -1,10 +1,11 @@
 -- What follows the end of a thread, and what a thread does that exits its process: no event but those of its exit functions; and the last
 -- thread of a process begins to exit it directly after its end, as each thread of the process has ended.
-use Rattle.pct_names.proofs.Names.{◌&&◌, ◌++◌, [], and_from, and_left, and_parts, ap, ap₂, Bool, cond, Config, Entry, eqb-false, Event}
-use Rattle.pct_names.proofs.Names.{event_of, false, false_from_ne_true, false≢true, holds_slot, inl, inr, is_live_thread, is_some, List}
-use Rattle.pct_names.proofs.Names.{list_all, list_any, made_process, map, nat_eq, NextStatement, None, Option, option_and_then, or_left}
-use Rattle.pct_names.proofs.Names.{or_right, Others, others_of, Process, refl, reverse, Run, run, Script, SharedState, Some, Status, Stmt}
-use Rattle.pct_names.proofs.Names.{subst, sym, Thread, thread_with, Transition, transition_by, true, What, ◌||◌, ℕ, ◌∙◌, ◌∷◌, ◌≡◌, ◌⊎◌}
+use Rattle.pct_names.proofs.Names.{◌&&◌, ◌++◌, [], and_from, and_left, and_parts, ap, ap₂, Bool, cond, Config, Entry, Environment}
+use Rattle.pct_names.proofs.Names.{environment_of, eqb-false, Event, event_of, false, false_from_ne_true, false≢true, has_valid_id}
+use Rattle.pct_names.proofs.Names.{holds_slot, inl, inr, is_some, List, list_all, list_any, made_process, map, nat_eq, NextStatement, None}
+use Rattle.pct_names.proofs.Names.{Option, option_and_then, or_left, or_right, Process, refl, reverse, Run, run, Script, SharedState, Some}
+use Rattle.pct_names.proofs.Names.{Status, Stmt, subst, sym, Thread, thread_with, Transition, transition_by, true, What, ◌||◌, ℕ, ◌∙◌, ◌∷◌}
+use Rattle.pct_names.proofs.Names.{◌≡◌, ◌⊎◌}
 use mathlib.Core.Bool.{and-false, or-false}
 use Rattle.std.proofs.Common.{eqb-true, eq-eqb}
 use Rattle.std.proofs.Math.Bool.{or_assoc}
@@ -59,12 +60,12 @@ FollowEnd last s added = record {
 
 -- ---- transitions
 
-module _ (passes : ℕ) (shared : SharedState) (t : Thread) (others : Others) where
+module _ (passes : ℕ) (shared : SharedState) (t : Thread) (environment : Environment) where
   -- the events of any transition may follow each other: a thread that ends and exits its process is the last one
-  case_follows : {body : List Stmt} {next : NextStatement} {s : Status} {o : Transition} → TransitionCase passes body shared t others true next s o → all_follow_end others.is_last (reverse o.events) ≡ true
+  case_follows : {body : List Stmt} {next : NextStatement} {s : Status} {o : Transition} → TransitionCase passes body shared t environment true next s o → all_follow_end environment.is_last (reverse o.events) ≡ true
   case_follows (last_ended next none is_last nothing_due none_left) = and_from _ _ (and_from _ _ is_last refl) refl
   case_follows (last_ended_with_keys next left none is_last some limit all none_left) = and_from _ _ (and_from _ _ is_last refl) refl
-  case_follows (fork_handler_called next at call is) = of_each_phase (λ (w : What). all_follow_end others.is_last (w ∷ []) ≡ true) call.func refl refl refl at.phase
+  case_follows (fork_handler_called next at call is) = of_each_phase (λ (w : What). all_follow_end environment.is_last (w ∷ []) ≡ true) call.func refl refl refl at.phase
   case_follows _ = refl
 
 -- ---- the events of a run
@@ -188,19 +189,19 @@ module _ (script : Script) (config : Config) (before : List Entry) (r : Run) (is
   moves = moves_of_run script config before r is e p t taken
 
   -- each other known thread of the process has ended, if the thread sees that
-  others_ended : (others_of config.slots r.world p t.id).is_last ≡ true → OthersEnded e r.events
+  others_ended : (environment_of config.slots r.world p t.id).is_last ≡ true → OthersEnded e r.events
   others_ended last id known other =
       let it : IsPresent (thread_with id p) = known_present script config before r is e.pid p made id known in
       let u : Thread = it.thread in
       let of_threads : OfItsThreads summary (FitsAny script config.passes) p = of_its_threads summary (FitsAny script config.passes) r (threads_fit script config before r is) e.pid p made in
       let exits : LastExits p.threads = last_exits script config (threads_fit script config) before r is e.pid p made in
       let number : u.id ≡ id = eqb-true u.id id (found_passes (λ (x : Thread). nat_eq x.id id) p.threads u it.is) in
-      let not_it : is_live_thread e.tid u ≡ false = and_left (nat_eq u.id e.tid) (holds_slot u) (false_from_ne_true (nat_eq u.id e.tid) (λ same. eqb-false e.tid id other (sym (eqb-true u.id e.tid same) ∙ number))) in
+      let not_it : has_valid_id e.tid u ≡ false = and_left (nat_eq u.id e.tid) (holds_slot u) (false_from_ne_true (nat_eq u.id e.tid) (λ same. eqb-false e.tid id other (sym (eqb-true u.id e.tid same) ∙ number))) in
       let ended : u.ended ≡ true = others_if_last script config r.world p e t of_threads moves exits last id u it.is it.here not_it in
       (threads_kept script config before r is e.pid id p u made it.is it.here).ended ∙ ended
 
   -- the events of a legal entry, by what is reported of its thread before
-  follow_end : FollowEnd (others_of config.slots r.world p t.id).is_last (summary_of e.pid e.tid r.events) (reverse (transition_by script config r.world p t e.alt).events)
+  follow_end : FollowEnd (environment_of config.slots r.world p t.id).is_last (summary_of e.pid e.tid r.events) (reverse (transition_by script config r.world p t e.alt).events)
   follow_end =
       let m = mover script config r.world p e t moves in
       let found = ap (option_and_then (thread_with e.tid)) made ∙ m.found in
@@ -211,7 +212,7 @@ module _ (script : Script) (config : Config) (before : List Entry) (r : Run) (is
         | inl alive ↦ inl (record {
           not_ended = alive.0;
           not_exiting = alive.1;
-          all = case_follows config.passes p.shared t (others_of config.slots r.world p t.id) (case_of_step script config r.world p e t moves);
+          all = case_follows config.passes p.shared t (environment_of config.slots r.world p t.id) (case_of_step script config r.world p e t moves);
         })
         | inr exits ↦ inr (exits.0, exits.2)
       ]
@@ -222,4 +223,4 @@ module _ (script : Script) (config : Config) where
   pub after_end_of_run : AfterEveryRun script config (λ r. each allows r.events ≡ true)
   after_end_of_run = every_run script config (λ r. each allows r.events ≡ true)
       (λ before r is e p t taken law.
-      after_end_later e r.events (others_of config.slots r.world p t.id).is_last (reverse (transition_by script config r.world p t e.alt).events) (follow_end script config before r is e p t taken) (others_ended script config before r is e p t taken) law) (λ some. refl)
+      after_end_later e r.events (environment_of config.slots r.world p t.id).is_last (reverse (transition_by script config r.world p t e.alt).events) (follow_end script config before r is e p t taken) (others_ended script config before r is e p t taken) law) (λ some. refl)

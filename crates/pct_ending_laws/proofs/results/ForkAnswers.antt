@@ -1,9 +1,9 @@
 -- The law of results, of the answer of fork: the event by which a process is made, or not, gives it to the thread, which keeps it until its fork
 -- returns.
-use Rattle.pct_names.proofs.Names.{[], ap, body_at, Bool, cond, Config, Entry, false, ForkAt, is_live_thread, List, moved}
-use Rattle.pct_names.proofs.Names.{next_of, NextStatement, None, none-some, Option, option_and_then, option_map, Others, others_of}
-use Rattle.pct_names.proofs.Names.{own_after, Process, refl, Run, run, same_Some, Script, SharedState, Some, Status, Stmt, sym}
-use Rattle.pct_names.proofs.Names.{Thread, thread_at, thread_moved, thread_with, Transition, transition_by, true, What, ℕ, ◌∙◌, ◌∷◌, ◌≡◌}
+use Rattle.pct_names.proofs.Names.{[], ap, body_at, Bool, cond, Config, Entry, Environment, environment_of, false, ForkAt, has_valid_id}
+use Rattle.pct_names.proofs.Names.{List, moved, next_of, NextStatement, None, none-some, Option, option_and_then, option_map, own_after}
+use Rattle.pct_names.proofs.Names.{Process, refl, Run, run, same_Some, Script, SharedState, Some, Status, Stmt, sym, Thread, thread_at}
+use Rattle.pct_names.proofs.Names.{thread_moved, thread_with, Transition, transition_by, true, What, ℕ, ◌∙◌, ◌∷◌, ◌≡◌}
 use Rattle.std.proofs.lemmas.Bool.{true≢false}
 use Rattle.pct_laws.specs.ResultLaw.{answer_by, fork_answer, answer_in, calls_fork, KeepsAnswer}
 use Rattle.pct_transition_cases.proofs.TransitionCases.{TransitionCase, fork_begun, fork_handler_called, fork_handler_left, process_forked}
@@ -13,18 +13,18 @@ use Rattle.pct_process_laws.proofs.ForksOfRun.{forks_of_run}
 use Rattle.pct_thread_invariants.proofs.lift.ChangedThreads.{named_keeps, same_settled}
 use Rattle.pct_thread_invariants.proofs.lift.EveryProcess.{moves_of_run, process_taken}
 use Rattle.pct_thread_invariants.proofs.lift.HandlerEvents.{of_each_phase}
-use Rattle.pct_thread_invariants.proofs.lift.MadeThreads.{IsLive}
+use Rattle.pct_thread_invariants.proofs.lift.MadeThreads.{HasValidId}
 use Rattle.pct_thread_invariants.proofs.lift.TakenSteps.{IsTaken}
 use Rattle.pct_thread_invariants.proofs.lift.ThreadsAfter.{Moves, mover}
 use Rattle.pct_thread_invariants.proofs.lift.MovedThreads.{EveryStep, step_of, case_of_step, every_step}
 
-module _ (passes : ℕ) (body : List Stmt) (shared : SharedState) (t : Thread) (others : Others) where
+module _ (passes : ℕ) (body : List Stmt) (shared : SharedState) (t : Thread) (environment : Environment) where
   -- the thread with a status
   abbrev with : Status → Thread
   with s = record t { status = s }
 
   -- the event gives the answer
-  case_given : {next : NextStatement} {s : Status} {o : Transition} → TransitionCase passes body shared t others true next s o → (n : ℕ)
+  case_given : {next : NextStatement} {s : Status} {o : Transition} → TransitionCase passes body shared t environment true next s o → (n : ℕ)
       → answer_in o.events ≡ Some n → fork_answer (moved o (with s)) ≡ Some n
   unfolding own_after thread_at
   case_given (process_forked next at new prepares is) n said = said
@@ -38,7 +38,7 @@ module _ (passes : ℕ) (body : List Stmt) (shared : SharedState) (t : Thread) (
     leaves : Bool
     is : fork_answer (moved o (with s)) ≡ cond leaves None (fork_answer (with s))
 
-  case_stays : {next : NextStatement} {s : Status} {o : Transition} → TransitionCase passes body shared t others true next s o
+  case_stays : {next : NextStatement} {s : Status} {o : Transition} → TransitionCase passes body shared t environment true next s o
       → HasNone s t.kept → answer_in o.events ≡ None → calls_fork next s ≡ false → Stays o s
   unfolding own_after thread_at
   case_stays (fork_begun frame result child unbegun) none quiet other = absurd (true≢false other)
@@ -68,24 +68,24 @@ module _ (script : Script) (config : Config) where
     moves : Moves script config r.world p e t
     moves = moves_of_run script config before r is e p t taken
 
-    case : TransitionCase config.passes (body_at script t.frames) p.shared t (others_of config.slots r.world p t.id) true (next_of script t.frames) t.status o
+    case : TransitionCase config.passes (body_at script t.frames) p.shared t (environment_of config.slots r.world p t.id) true (next_of script t.frames) t.status o
     case = case_of_step script config r.world p e t moves
 
     answer_is : fork_answer (thread_moved e.tid o t) ≡ fork_answer (moved o t)
     answer_is =
-        named_keeps fork_answer (λ t joined pending detached specific s same. same_settled (λ (st : Status). answer_by st t.kept) (λ c m why. refl) s t.status same) o.named (cond (is_live_thread e.tid t) (moved o t) t)
-        ∙ ap (λ (b : Bool). fork_answer (cond b (moved o t) t)) (mover script config r.world p e t moves).live
+        named_keeps fork_answer (λ t joined pending detached specific s same. same_settled (λ (st : Status). answer_by st t.kept) (λ c m why. refl) s t.status same) o.named (cond (has_valid_id e.tid t) (moved o t) t)
+        ∙ ap (λ (b : Bool). fork_answer (cond b (moved o t) t)) (mover script config r.world p e t moves).valid
 
     none : HasNone t.status t.kept
     none =
-        let it : IsLive p e.tid t = mover script config r.world p e t moves in
+        let it : HasValidId p e.tid t = mover script config r.world p e t moves in
         has_none t.status t.frames t.kept (forks_of_run script config before r is e.pid e.tid t (ap (option_and_then (thread_with e.tid)) (process_taken script config before r is e p t taken) ∙ it.found) it.here).keeps
 
     answers_of_step : KeepsAnswer script (step_of script config r p e t)
     answers_of_step = record {
-      given = λ n said. answer_is ∙ case_given config.passes (body_at script t.frames) p.shared t (others_of config.slots r.world p t.id) case n said;
+      given = λ n said. answer_is ∙ case_given config.passes (body_at script t.frames) p.shared t (environment_of config.slots r.world p t.id) case n said;
       kept = λ quiet other n m was after.
-          let it = case_stays config.passes (body_at script t.frames) p.shared t (others_of config.slots r.world p t.id) case none quiet other in
+          let it = case_stays config.passes (body_at script t.frames) p.shared t (environment_of config.slots r.world p t.id) case none quiet other in
           one_answer n m it.leaves (answer_is ∙ it.is) was after;
     }
 

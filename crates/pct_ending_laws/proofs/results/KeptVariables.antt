@@ -1,9 +1,9 @@
 -- After every run each process has the globals of the script, each frame has its locals, and each thread has a value for each place of keys.
 use Rattle.pct_names.proofs.Names.{[], All, All-from_recursion, ap, at_pc, Bool, child_of, cond, cond_some, Config, Dest, false, find}
-use Rattle.pct_names.proofs.Names.{Frame, frames_written, is_live_thread, key_place, KeyValues, length, length-replicate, List}
-use Rattle.pct_names.proofs.Names.{made_process, MAX_KEYS, moved, NamedAction, nat_eq, None, Option, option_and_then_some, own_after}
-use Rattle.pct_names.proofs.Names.{OwnAction, Process, refl, Script, SharedState, slice_set, Some, subst, sym, Thread, thread_at}
-use Rattle.pct_names.proofs.Names.{thread_moved, thread_with, Transition, transition_by, true, without_first, written, ℕ, ◌∙◌, ◌∷◌, ◌≡◌}
+use Rattle.pct_names.proofs.Names.{Frame, frames_written, has_valid_id, key_place, KeyValues, length, length-replicate, List, made_process}
+use Rattle.pct_names.proofs.Names.{MAX_KEYS, moved, NamedAction, nat_eq, None, Option, option_and_then_some, own_after, OwnAction, Process}
+use Rattle.pct_names.proofs.Names.{refl, Script, SharedState, slice_set, Some, subst, sym, Thread, thread_at, thread_moved, thread_with}
+use Rattle.pct_names.proofs.Names.{Transition, transition_by, true, without_first, written, ℕ, ◌∙◌, ◌∷◌, ◌≡◌}
 use Rattle.std.proofs.lemmas.List.{length-set}
 use Rattle.pct_model.specs.declared.limits.TheConstants.{MAX_LOCALS}
 use Rattle.pct_model.specs.declared.statement.Dest.TheVariants as destination
@@ -14,7 +14,7 @@ use Rattle.pct_thread_invariants.proofs.lift.ChangedThreads.{either_keeps, named
 use Rattle.pct_thread_invariants.proofs.keys.KeptKeys.{own_data, named_data}
 use Rattle.pct_thread_invariants.proofs.keys.KeysOfProcesses.{data_moved}
 use Rattle.pct_thread_invariants.proofs.lift.TakenSteps.{AfterEveryRun}
-use Rattle.pct_thread_invariants.proofs.lift.MadeThreads.{IsLive}
+use Rattle.pct_thread_invariants.proofs.lift.MadeThreads.{HasValidId}
 use Rattle.pct_thread_invariants.proofs.lift.ThreadsAfter.{initial_thread, Moves, mover, each_after}
 use Rattle.pct_thread_invariants.proofs.lift.InheritedThreads.{each_heir}
 use Rattle.pct_thread_invariants.proofs.lift.EveryProcess.{OfEveryProcess, IsProcessRule, unread, every_process_keeps, moves_of_run}
@@ -79,10 +79,10 @@ module _ (script : Script) where
   moved_keeps tid o t have = record {
     locals =
         subst (HaveLocals script) (sym (named_keeps (λ (u : Thread). u.frames) (λ t joined pending detached specific s same. refl) o.named _))
-        (by_live (is_live_thread tid t));
+        (by_live (has_valid_id tid t));
     values =
         ap (λ (own : KeyValues). length own.values) (data_moved tid o t) ∙ named_values o.named _
-        ∙ either_keeps (λ (own : KeyValues). length own.values) (is_live_thread tid t) _ t.specific t.specific (own_values o.own t.specific) refl
+        ∙ either_keeps (λ (own : KeyValues). length own.values) (has_valid_id tid t) _ t.specific t.specific (own_values o.own t.specific) refl
         ∙ have.values;
   }
     where
@@ -113,7 +113,7 @@ module _ (script : Script) where
           (λ id new makes. record { locals = (refl, tt); values = length-replicate {A = ℕ} MAX_KEYS 0 });
     };
     born = λ w p e t k new moves fork have.
-        let it : IsLive p e.tid t = mover script config w p e t moves in
+        let it : HasValidId p e.tid t = mover script config w p e t moves in
         let replica : HasVariables script t = have.threads e.tid t it.found in
         record {
           globals = have.globals;

@@ -1,10 +1,10 @@
 -- The law of thread-specific data, of other processes: a step keeps the threads of a process that was made before, and what they share; and in
 -- the process that a fork makes the thread that forked has its values.
-use Rattle.pct_names.proofs.Names.{after_transition, ap, Bool, child_of, cond, Config, Entry, false, false≢true, find, Forked, forks_by}
-use Rattle.pct_names.proofs.Names.{KeyValues, Legal, List, list_any, made_process, nat_eq, NextStatement, None, none-some, Option}
-use Rattle.pct_names.proofs.Names.{option_map, option_or, other_process_after, Others, Process, process_moved, refl, Run, run, same_Some}
-use Rattle.pct_names.proofs.Names.{Script, SharedState, Some, Status, Stmt, subst, sym, Thread, thread_with, Transition, transition_by}
-use Rattle.pct_names.proofs.Names.{true, What, ℕ, ◌∙◌, ◌≡◌}
+use Rattle.pct_names.proofs.Names.{after_transition, ap, Bool, child_of, cond, Config, Entry, Environment, false, false≢true, find, Forked}
+use Rattle.pct_names.proofs.Names.{forks_by, KeyValues, Legal, List, list_any, made_process, nat_eq, NextStatement, None, none-some, Option}
+use Rattle.pct_names.proofs.Names.{option_map, option_or, other_process_after, Process, process_moved, refl, Run, run, same_Some, Script}
+use Rattle.pct_names.proofs.Names.{SharedState, Some, Status, Stmt, subst, sym, Thread, thread_with, Transition, transition_by, true, What}
+use Rattle.pct_names.proofs.Names.{ℕ, ◌∙◌, ◌≡◌}
 use Rattle.std.proofs.Common.{ne_eqb}
 use Rattle.pct_laws.specs.ProcessSteps.{EachOtherProcess}
 use Rattle.pct_laws.specs.ThreadSteps.{ThreadStep}
@@ -17,7 +17,7 @@ use Rattle.pct_thread_invariants.proofs.lift.CreatedThreads.{Makes, makes_none, 
 use Rattle.pct_thread_invariants.proofs.lift.EveryProcess.{moves_of_run}
 use Rattle.pct_thread_invariants.proofs.lift.InheritedThreads.{each_heir}
 use Rattle.pct_thread_invariants.proofs.lift.KeyedLists.{found_passes}
-use Rattle.pct_thread_invariants.proofs.lift.MadeThreads.{child_made, IsStep, is_step, process_after_step, other_process_is, IsLive}
+use Rattle.pct_thread_invariants.proofs.lift.MadeThreads.{child_made, IsStep, is_step, process_after_step, other_process_is, HasValidId}
 use Rattle.pct_thread_invariants.proofs.lift.ProcessIds.{have_pids}
 use Rattle.pct_thread_invariants.proofs.lift.TakenSteps.{IsTaken}
 use Rattle.pct_thread_invariants.proofs.lift.ThreadsAfter.{Moves, mover}
@@ -34,7 +34,7 @@ is_fork_event _ = false
 abbrev KeepsItsValues : ThreadStep → Type 0
 KeepsItsValues s = list_any is_fork_event s.events ≡ true → s.after.specific.values ≡ s.before.specific.values
 
-case_forks : {passes : ℕ} {body : List Stmt} {shared : SharedState} {t : Thread} {others : Others} {next : NextStatement} {s : Status} {o : Transition} → TransitionCase passes body shared t others true next s o
+case_forks : {passes : ℕ} {body : List Stmt} {shared : SharedState} {t : Thread} {environment : Environment} {next : NextStatement} {s : Status} {o : Transition} → TransitionCase passes body shared t environment true next s o
     → list_any is_fork_event o.events ≡ true → (own : KeyValues) → named_data o.named (own_data o.own own) ≡ own
 case_forks (specific_set frame key v named) said own = absurd (false≢true said)
 case_forks (key_deleted frame key named) said own = absurd (false≢true said)
@@ -49,7 +49,7 @@ module _ (script : Script) (config : Config) where
       let o : Transition = transition_by script config r.world p t e.alt in
       let moves : Moves script config r.world p e t = moves_of_run script config before r is e p t taken in
       ap (λ (own : KeyValues). own.values) (
-      data_moved e.tid o t ∙ ap (λ (live : Bool). named_data o.named (cond live (own_data o.own t.specific) t.specific)) (mover script config r.world p e t moves).live
+      data_moved e.tid o t ∙ ap (λ (live : Bool). named_data o.named (cond live (own_data o.own t.specific) t.specific)) (mover script config r.world p e t moves).valid
       ∙ case_forks (case_of_step script config r.world p e t moves) said t.specific)
 
   forker_of_run : EveryStep script config KeepsItsValues
@@ -87,7 +87,7 @@ module _ (script : Script) (config : Config) where
     child_has : (new : ℕ) (u : Thread) → thread_with e.tid (child_of e.tid new p) ≡ Some u → u.specific.values ≡ t.specific.values
     child_has new u made = its_heir e.tid u made refl
       where
-        it : IsLive p e.tid t
+        it : HasValidId p e.tid t
         it = mover script config r.world p e t moves
 
         its_heir : (id : ℕ) (x : Thread) → thread_with id (child_of e.tid new p) ≡ Some x → id ≡ e.tid

@@ -1,8 +1,8 @@
 -- The law of thread-specific data: pthread_setspecific gives its thread the value of its operand.
-use Rattle.pct_names.proofs.Names.{◌-◌, ◌<◌, acts_on_request, acts_or, Alt, ap, arith, body_at, Bool, cond, Config, Entry, false, Frame}
-use Rattle.pct_names.proofs.Names.{key_place, KeyValues, length, List, MAX_KEYS, next_of, NextStatement, None, NoStatement, not, Option}
-use Rattle.pct_names.proofs.Names.{or_right, Others, others_of, Process, refl, Run, run, runs, Script, sets_specific, SharedState, Some}
-use Rattle.pct_names.proofs.Names.{StatementIn, Status, Stmt, stop_at, stops_or, subst, sym, Thread, thread_moved, Transition}
+use Rattle.pct_names.proofs.Names.{◌-◌, ◌<◌, acts_on_request, acts_or, Alt, ap, arith, body_at, Bool, cond, Config, Entry, Environment}
+use Rattle.pct_names.proofs.Names.{environment_of, false, Frame, key_place, KeyValues, length, List, MAX_KEYS, next_of, NextStatement, None}
+use Rattle.pct_names.proofs.Names.{NoStatement, not, Option, or_right, Process, refl, Run, run, runs, Script, sets_specific, SharedState}
+use Rattle.pct_names.proofs.Names.{Some, StatementIn, Status, Stmt, stop_at, stops_or, subst, sym, Thread, thread_moved, Transition}
 use Rattle.pct_names.proofs.Names.{transition_at, transition_by, true, value_of, Why, ◌||◌, ℕ, ◌∙◌, ◌≡◌}
 use Rattle.std.proofs.Common.{eq-eqb}
 use Rattle.std.proofs.lemmas.List.{get_or-set_same}
@@ -21,7 +21,7 @@ use Rattle.pct_cancel_laws.proofs.requests.ActingCalls.{its_status}
 use Rattle.pct_ending_laws.proofs.results.KeptVariables.{variables_of_run}
 use Rattle.pct_thread_invariants.proofs.lift.MovedThreads.{EveryStep, step_of, every_step}
 
-module _ (passes : ℕ) (body : List Stmt) (shared : SharedState) (t : Thread) (others : Others) (values : length t.specific.values ≡ MAX_KEYS) where
+module _ (passes : ℕ) (body : List Stmt) (shared : SharedState) (t : Thread) (environment : Environment) (values : length t.specific.values ≡ MAX_KEYS) where
   -- the data of the thread after a transition
   abbrev pub data_after : Transition → KeyValues
   data_after o = named_data o.named (own_data o.own t.specific)
@@ -40,7 +40,7 @@ module _ (passes : ℕ) (body : List Stmt) (shared : SharedState) (t : Thread) (
 
   -- the value is that of the operand
   value_set : (choice : Alt) (frame : Frame) (s : Stmt)
-      → IsSet (StatementIn frame s) (data_after (runs passes body shared t others choice frame s)) ≡ true
+      → IsSet (StatementIn frame s) (data_after (runs passes body shared t environment choice frame s)) ≡ true
   unfolding runs sets_specific
   value_set choice frame (statement.SetSpecific key v) =
       let place : ℕ = key_place (value_of shared.globals frame key) in
@@ -56,14 +56,14 @@ module _ (passes : ℕ) (body : List Stmt) (shared : SharedState) (t : Thread) (
   -- a running thread, by a choice
   abbrev Sets : Alt → NextStatement → Status → Type 0
   Sets choice next s =
-      (acts_or_stops (acts_or choice s (transition_at passes body shared t others choice next s)).events || IsSet next (data_after (acts_or choice s (transition_at passes body shared t others choice next s)))) ≡ true
+      (acts_or_stops (acts_or choice s (transition_at passes body shared t environment choice next s)).events || IsSet next (data_after (acts_or choice s (transition_at passes body shared t environment choice next s)))) ≡ true
 
   running_sets : (choice : Alt) (next : NextStatement) → Sets choice next status.Running
   unfolding transition_at acts_on_request
   running_sets (alt.Act n) next = refl
   running_sets choice NoStatement = refl
   running_sets choice (StatementIn frame s) =
-      unless_stopped frame s (stop_at body shared t others frame s) (runs passes body shared t others choice frame s) (value_set choice frame s)
+      unless_stopped frame s (stop_at body shared t environment frame s) (runs passes body shared t environment choice frame s) (value_set choice frame s)
 
   -- what follows of two tests, for the thread after a step
   then_has : (next : NextStatement) (u : Thread) (own : KeyValues) (acts : Bool) → u.specific ≡ own → (acts || IsSet next own) ≡ true
@@ -86,14 +86,14 @@ module _ (script : Script) (config : Config) where
       let o : Transition = transition_by script config r.world p t e.alt in
       let moves : Moves script config r.world p e t = moves_of_run script config before r is e p t taken in
       let body : List Stmt = body_at script t.frames in
-      let others : Others = others_of config.slots r.world p t.id in
+      let environment : Environment = environment_of config.slots r.world p t.id in
       let next : NextStatement = next_of script t.frames in
       let values : length t.specific.values ≡ MAX_KEYS = ((variables_of_run script config before r is e.pid p (process_taken script config before r is e p t taken)).threads e.tid t (mover script config r.world p e t moves).found).values in
-      let its_data : (thread_moved e.tid o t).specific ≡ data_after config.passes body p.shared t others values o =
-      data_moved e.tid o t ∙ ap (λ (live : Bool). named_data o.named (cond live (own_data o.own t.specific) t.specific)) (mover script config r.world p e t moves).live in
+      let its_data : (thread_moved e.tid o t).specific ≡ data_after config.passes body p.shared t environment values o =
+      data_moved e.tid o t ∙ ap (λ (live : Bool). named_data o.named (cond live (own_data o.own t.specific) t.specific)) (mover script config r.world p e t moves).valid in
       if_runs (is_running t.status) (acts_or_stops o.events) (has_value_set p.shared.globals next (thread_moved e.tid o t)) (λ running.
-      then_has config.passes body p.shared t others values next (thread_moved e.tid o t) (data_after config.passes body p.shared t others values o) (acts_or_stops o.events) its_data
-      (subst (Sets config.passes body p.shared t others values e.alt next) (sym (its_status t.status running)) (running_sets config.passes body p.shared t others values e.alt next)))
+      then_has config.passes body p.shared t environment values next (thread_moved e.tid o t) (data_after config.passes body p.shared t environment values o) (acts_or_stops o.events) its_data
+      (subst (Sets config.passes body p.shared t environment values e.alt next) (sym (its_status t.status running)) (running_sets config.passes body p.shared t environment values e.alt next)))
 
   -- each pthread_setspecific of a run sets its value
   pub sets_of_run : EveryStep script config (λ s. sets_its_value script s ≡ true)

@@ -1,10 +1,10 @@
 -- The law of results: what each step of a run stores is what its statement stores, by the table.
 use Rattle.pct_names.proofs.Names.{◌&&◌, ◌-◌, [], acts_on_request, acts_or, adds, Alt, ap, ap₂, arith, at_pc, body_at, Bool, calls_handler}
-use Rattle.pct_names.proofs.Names.{choices_at, cond, Config, Dest, drop, drop_all, EAGAIN, encode, Entry, false, false≢true, ForkAt}
-use Rattle.pct_names.proofs.Names.{forks_by, Frame, frames_written, gets_self, gets_specific, goes_on, goes_on_after_handlers}
-use Rattle.pct_names.proofs.Names.{goes_on_forking, handler_event, HandlerCall, has_no_frame, is_forking, is_live_thread, length}
-use Rattle.pct_names.proofs.Names.{length-map, List, MAX_FORK_HANDLERS, may_register, moved, nat_eq, nat_lt, next_of, NextStatement, None}
-use Rattle.pct_names.proofs.Names.{NoStatement, not, offers, Option, option_map, Others, others_of, own_after, OwnAction, Parent, Phase}
+use Rattle.pct_names.proofs.Names.{choices_at, cond, Config, Dest, drop, drop_all, EAGAIN, encode, Entry, Environment, environment_of}
+use Rattle.pct_names.proofs.Names.{false, false≢true, ForkAt, forks_by, Frame, frames_written, gets_self, gets_specific, goes_on}
+use Rattle.pct_names.proofs.Names.{goes_on_after_handlers, goes_on_forking, handler_event, HandlerCall, has_no_frame, has_valid_id}
+use Rattle.pct_names.proofs.Names.{is_forking, length, length-map, List, MAX_FORK_HANDLERS, may_register, moved, nat_eq, nat_lt, next_of}
+use Rattle.pct_names.proofs.Names.{NextStatement, None, NoStatement, not, offers, Option, option_map, own_after, OwnAction, Parent, Phase}
 use Rattle.pct_names.proofs.Names.{Prepare, Process, refl, registers_fork, registers_if, returns_in_child, returns_in_parent, Run, run}
 use Rattle.pct_names.proofs.Names.{runs, Script, sets, SharedState, slice_index, Some, StatementIn, Status, Stmt, stop_at, stops_or, subst}
 use Rattle.pct_names.proofs.Names.{suc, sym, syntax_of, Thread, thread_at, thread_moved, Transition, transition_at, transition_by, true}
@@ -31,7 +31,7 @@ use Rattle.pct_transition_cases.proofs.PlacedStatements.{IsPlaced, is_placed}
 use Rattle.pct_thread_invariants.proofs.ThreadsOfRun.{threads_kept}
 use Rattle.pct_thread_invariants.proofs.lift.ChangedThreads.{either_keeps, named_keeps, changed_shared}
 use Rattle.pct_thread_invariants.proofs.lift.EveryProcess.{moves_of_run, process_taken}
-use Rattle.pct_thread_invariants.proofs.lift.MadeThreads.{IsLive}
+use Rattle.pct_thread_invariants.proofs.lift.MadeThreads.{HasValidId}
 use Rattle.pct_thread_invariants.proofs.lift.TakenSteps.{IsTaken}
 use Rattle.pct_thread_invariants.proofs.lift.ThreadsAfter.{Moves, mover}
 use Rattle.pct_ending_laws.proofs.results.NamedVariables.{names_variables}
@@ -100,14 +100,14 @@ own_leaves _ t none = refl
 abbrev is_nothing : Transition → Bool
 is_nothing o = is_empty o.writes && is_empty o.events
 
-module _ (passes : ℕ) (body : List Stmt) (shared : SharedState) (t : Thread) (others : Others) where
+module _ (passes : ℕ) (body : List Stmt) (shared : SharedState) (t : Thread) (environment : Environment) where
   -- a transition of the thread, with a status and its next statement, stores what the table has
   abbrev pub StoresIts : NextStatement → Status → Transition → Type 0
   StoresIts next s o = o.writes ≡ cond (acts_or_stops o.events) [] (stored_by shared t next s o.events)
 
   -- what the thread does by a choice
   abbrev does : Alt → NextStatement → Status → Transition
-  does choice next s = acts_or choice s (transition_at passes body shared t others choice next s)
+  does choice next s = acts_or choice s (transition_at passes body shared t environment choice next s)
 
   -- ---- a thread that does nothing, where the table has something without an event
 
@@ -117,7 +117,7 @@ module _ (passes : ℕ) (body : List Stmt) (shared : SharedState) (t : Thread) (
   runs_something true next result f = refl
   runs_something false next result f = refl
 
-  runs_nothing : (choice : Alt) (frame : Frame) (s : Stmt) → is_nothing (runs passes body shared t others choice frame s) ≡ true
+  runs_nothing : (choice : Alt) (frame : Frame) (s : Stmt) → is_nothing (runs passes body shared t environment choice frame s) ≡ true
       → stored_at shared t frame s [] ≡ []
   unfolding runs sets adds gets_self gets_specific registers_fork
   runs_nothing choice frame (statement.Set d v) is = absurd (false≢true is)
@@ -142,7 +142,7 @@ module _ (passes : ℕ) (body : List Stmt) (shared : SharedState) (t : Thread) (
   does_nothing choice NoStatement s other is = refl
   does_nothing (alt.Act n) (StatementIn frame st) status.Running other is = absurd (false≢true is)
   does_nothing choice (StatementIn frame st) status.Running other is =
-      stops_nothing frame st (stop_at body shared t others frame st) _ (runs_nothing choice frame st) is
+      stops_nothing frame st (stop_at body shared t environment frame st) _ (runs_nothing choice frame st) is
   does_nothing choice (StatementIn frame (statement.Join id d)) (status.Joining target) other is = refl
   does_nothing choice (StatementIn frame _) (status.Joining target) other is = refl
   does_nothing choice (StatementIn frame (statement.WaitPid result pid d)) (status.InWaitPid child) other is = refl
@@ -161,7 +161,7 @@ module _ (passes : ℕ) (body : List Stmt) (shared : SharedState) (t : Thread) (
   returns_nothing (by_return v) events = refl
   returns_nothing (by_end none) events = refl
 
-  case_stores : (next : NextStatement) {s : Status} {o : Transition} → TransitionCase passes body shared t others true next s o
+  case_stores : (next : NextStatement) {s : Status} {o : Transition} → TransitionCase passes body shared t environment true next s o
       → is_forking s ≡ false → (is_nothing o ≡ true → stored_by shared t next s [] ≡ []) → StoresIts next s o
   case_stores NoStatement (rests next s alive) other nothing = refl
   case_stores NoStatement (fork_handler_called next at call is) other nothing = absurd (true≢false other)
@@ -226,15 +226,15 @@ module _ (passes : ℕ) (body : List Stmt) (shared : SharedState) (t : Thread) (
   forking (Some call) at new next = with_event at (handler_event at.phase call.func) next
   forking None at new next = after_handlers at.phase at refl new next
 
-  in_fork : (choice : Alt) (at : ForkAt) (next : NextStatement) → offers (choices_at body shared t others next (status.Forking at)) choice ≡ true
+  in_fork : (choice : Alt) (at : ForkAt) (next : NextStatement) → offers (choices_at body shared t environment next (status.Forking at)) choice ≡ true
       → StoresIts next (status.Forking at) (does choice next (status.Forking at))
   unfolding transition_at choices_at
   in_fork (alt.Act n) at next offered = absurd (false≢true offered)
-  in_fork _ at NoStatement offered = forking _ at others.family.new_pid NoStatement
-  in_fork _ at (StatementIn frame s) offered = forking _ at others.family.new_pid (StatementIn frame s)
+  in_fork _ at NoStatement offered = forking _ at environment.family.new_pid NoStatement
+  in_fork _ at (StatementIn frame s) offered = forking _ at environment.family.new_pid (StatementIn frame s)
 
-  stores_its : (choice : Alt) (next : NextStatement) (s : Status) → offers (choices_at body shared t others next s) choice ≡ true
-      → TransitionCase passes body shared t others true next s (does choice next s) → StoresIts next s (does choice next s)
+  stores_its : (choice : Alt) (next : NextStatement) (s : Status) → offers (choices_at body shared t environment next s) choice ≡ true
+      → TransitionCase passes body shared t environment true next s (does choice next s) → StoresIts next s (does choice next s)
   stores_its choice next (status.Forking at) offered case = in_fork choice at next offered
   stores_its choice next s offered case = case_stores next case refl (does_nothing choice next s refl)
 
@@ -242,7 +242,7 @@ module _ (passes : ℕ) (body : List Stmt) (shared : SharedState) (t : Thread) (
 
   -- a transition stores numbers in variables of the script
   case_named : (script : Script) {frames : List Frame} {next : NextStatement} {s : Status} {o : Transition}
-      → IsPlaced script frames body next → TransitionCase passes body shared t others true next s o
+      → IsPlaced script frames body next → TransitionCase passes body shared t environment true next s o
       → InVariables script o.writes
   unfolding encode syntax_of
   case_named script placed (rests next s alive) = tt
@@ -250,13 +250,13 @@ module _ (passes : ℕ) (body : List Stmt) (shared : SharedState) (t : Thread) (
   case_named script {next = StatementIn frame s} {o = o} placed _ = names_variables script (length o.writes) placed
 
   -- one that stores a number keeps the frames of the thread
-  case_stays : {next : NextStatement} {s : Status} {o : Transition} → TransitionCase passes body shared t others true next s o
+  case_stays : {next : NextStatement} {s : Status} {o : Transition} → TransitionCase passes body shared t environment true next s o
       → (is_empty o.writes || stays o.own) ≡ true
   case_stays (rests next s alive) = refl
   case_stays _ = refl
 
   -- a frame that is to be the only one is made for a thread without a frame
-  case_alone : {next : NextStatement} {s : Status} {o : Transition} → TransitionCase passes body shared t others true next s o
+  case_alone : {next : NextStatement} {s : Status} {o : Transition} → TransitionCase passes body shared t environment true next s o
       → (not (is_alone o.own) || has_no_frame s) ≡ true
   case_alone (rests next s alive) = refl
   case_alone _ = refl
@@ -286,23 +286,23 @@ module _ (script : Script) (config : Config) where
     moves : Moves script config r.world p e t
     moves = moves_of_run script config before r is e p t taken
 
-    case : TransitionCase config.passes (body_at script t.frames) p.shared t (others_of config.slots r.world p t.id) true (next_of script t.frames) t.status o
+    case : TransitionCase config.passes (body_at script t.frames) p.shared t (environment_of config.slots r.world p t.id) true (next_of script t.frames) t.status o
     case = case_of_step script config r.world p e t moves
 
     have : HaveVariables script p
     have = variables_of_run script config before r is e.pid p (process_taken script config before r is e p t taken)
 
     stores_are : o.writes ≡ its
-    stores_are = stores_its config.passes (body_at script t.frames) p.shared t (others_of config.slots r.world p t.id) e.alt (next_of script t.frames) t.status taken.offered case
+    stores_are = stores_its config.passes (body_at script t.frames) p.shared t (environment_of config.slots r.world p t.id) e.alt (next_of script t.frames) t.status taken.offered case
 
     in_variables : InVariables script o.writes
-    in_variables = case_named config.passes (body_at script t.frames) p.shared t (others_of config.slots r.world p t.id) script (is_placed script t.frames) case
+    in_variables = case_named config.passes (body_at script t.frames) p.shared t (environment_of config.slots r.world p t.id) script (is_placed script t.frames) case
 
     -- the frames are those after its own actions
     frames_are : (thread_moved e.tid o t).frames ≡ (moved o t).frames
     frames_are =
-        named_keeps (λ (u : Thread). u.frames) (λ t joined pending detached specific s same. refl) o.named (cond (is_live_thread e.tid t) (moved o t) t)
-        ∙ ap (λ (b : Bool). (cond b (moved o t) t).frames) (mover script config r.world p e t moves).live
+        named_keeps (λ (u : Thread). u.frames) (λ t joined pending detached specific s same. refl) o.named (cond (has_valid_id e.tid t) (moved o t) t)
+        ∙ ap (λ (b : Bool). (cond b (moved o t) t).frames) (mover script config r.world p e t moves).valid
 
     global_after : (i : ℕ)
         → slice_index (step_of script config r p e t).process_after.shared.globals i ≡ after_stores (destination.Global i) its (slice_index p.shared.globals i)
@@ -315,7 +315,7 @@ module _ (script : Script) (config : Config) where
     frames_stay some =
         let kept : stays o.own ≡ true =
         sym (ap (λ (none : Bool). none || stays o.own) (ap (λ (stores : List Store). is_empty stores) stores_are ∙ some))
-        ∙ case_stays config.passes (body_at script t.frames) p.shared t (others_of config.slots r.world p t.id) case in
+        ∙ case_stays config.passes (body_at script t.frames) p.shared t (environment_of config.slots r.world p t.id) case in
         frames_are ∙ frames_moved o kept t
 
     local_after : is_empty its ≡ false → (i : ℕ)
@@ -336,7 +336,7 @@ module _ (script : Script) (config : Config) where
     -- one that stores nothing leaves the locals of the functions that go on
     leaves : is_empty its ≡ true → Leave (all_locals (moved o t).frames) (all_locals t.frames)
     leaves none =
-        let it : IsLive p e.tid t = mover script config r.world p e t moves in
+        let it : HasValidId p e.tid t = mover script config r.world p e t moves in
         let is_process = process_taken script config before r is e p t taken in
         let at : Thread = thread_at o.next t in
         let frames : List Frame = written frames_written o.writes at.frames in
@@ -348,7 +348,7 @@ module _ (script : Script) (config : Config) where
         ∙ (threads_kept script config before r is e.pid e.tid p t is_process it.found it.here).frames in
         subst (λ (locals : List (List ℕ)). Leave (all_locals (moved o t).frames) locals) same (own_leaves o.own (record at { frames = frames })
         (ap (λ (none : Bool). not (is_alone o.own) || none) has
-        ∙ case_alone config.passes (body_at script t.frames) p.shared t (others_of config.slots r.world p t.id) case))
+        ∙ case_alone config.passes (body_at script t.frames) p.shared t (environment_of config.slots r.world p t.id) case))
       where
         no_stores : (stores : List Store) → is_empty stores ≡ true → stores ≡ []
         no_stores [] is = refl

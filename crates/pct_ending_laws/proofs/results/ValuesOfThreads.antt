@@ -1,8 +1,8 @@
 -- The law of thread-specific data, of the threads of a process: a step changes no value of another thread than its own, but NULL is left at the
 -- place of a key that is deleted; and a new thread has NULL for each key.
-use Rattle.pct_names.proofs.Names.{[], and_left, ap, Bool, cond, Config, Entry, eqb-false, false, false≢true, holds_slot, is_live_thread}
-use Rattle.pct_names.proofs.Names.{is_none, Key, key_at, key_place, KeyPlace, KeyValues, List, list_any, MAX_KEYS, NamedAction, nat_eq}
-use Rattle.pct_names.proofs.Names.{new_keys, next_key, NextStatement, None, none-some, Option, option_map_or, Others, Process, refl, Run}
+use Rattle.pct_names.proofs.Names.{[], and_left, ap, Bool, cond, Config, Entry, Environment, eqb-false, false, false≢true, has_valid_id}
+use Rattle.pct_names.proofs.Names.{holds_slot, is_none, Key, key_at, key_place, KeyPlace, KeyValues, List, list_any, MAX_KEYS, NamedAction}
+use Rattle.pct_names.proofs.Names.{nat_eq, new_keys, next_key, NextStatement, None, none-some, Option, option_map_or, Process, refl, Run}
 use Rattle.pct_names.proofs.Names.{run, same_Some, Script, SharedState, slice_get, Some, Status, Stmt, subst, sym, Thread, thread_moved}
 use Rattle.pct_names.proofs.Names.{thread_with, Transition, transition_by, true, value_at, What, without_value, ℕ, ◌∙◌, ◌∷◌, ◌≡◌, ◌≢◌}
 use Rattle.std.proofs.Common.{eqb-true, get_or-set_other, ne_eqb}
@@ -28,7 +28,7 @@ module _ (place : ℕ) where
   deletes _ = false
 
   -- a transition has the event that a key is deleted exactly if an action deletes it
-  case_deletes : {passes : ℕ} {body : List Stmt} {shared : SharedState} {t : Thread} {others : Others} {next : NextStatement} {s : Status} {o : Transition} → TransitionCase passes body shared t others true next s o
+  case_deletes : {passes : ℕ} {body : List Stmt} {shared : SharedState} {t : Thread} {environment : Environment} {next : NextStatement} {s : Status} {o : Transition} → TransitionCase passes body shared t environment true next s o
       → list_any (deletes_at place) o.events ≡ deletes o.named
   case_deletes (key_deleted frame key named) = or-false _
   case_deletes (fork_handler_called next at call is) =
@@ -52,7 +52,7 @@ module _ (place : ℕ) where
       none_is None is = refl
       none_is (Some key) is = absurd (false≢true is)
 
-  case_makes : {passes : ℕ} {body : List Stmt} {shared : SharedState} {t : Thread} {others : Others} {next : NextStatement} {s : Status} {o : Transition} → TransitionCase passes body shared t others true next s o
+  case_makes : {passes : ℕ} {body : List Stmt} {shared : SharedState} {t : Thread} {environment : Environment} {next : NextStatement} {s : Status} {o : Transition} → TransitionCase passes body shared t environment true next s o
       → list_any (makes_at place) o.events ≡ true → Makes shared.keys o
   case_makes {shared = shared} (key_made frame result key destructor k among) said =
       record { unused = is_unused shared.keys k (among refl) (sym (or-false _) ∙ said); kept = unchanged }
@@ -93,7 +93,7 @@ module _ (script : Script) (config : Config) where
     events_say place = case_deletes place (case_of_step script config r.world p e t moves)
 
     -- another one
-    is_another : (tid : ℕ) (u : Thread) → thread_with tid p ≡ Some u → tid ≢ e.tid → is_live_thread e.tid u ≡ false
+    is_another : (tid : ℕ) (u : Thread) → thread_with tid p ≡ Some u → tid ≢ e.tid → has_valid_id e.tid u ≡ false
     is_another tid u found differs =
         let named : u.id ≡ tid = eqb-true u.id tid (found_passes (λ (x : Thread). nat_eq x.id tid) p.threads u found) in
         and_left (nat_eq u.id e.tid) (holds_slot u) (ne_eqb u.id e.tid (λ same. differs (sym named ∙ same)))
@@ -105,10 +105,10 @@ module _ (script : Script) (config : Config) where
           ap (value_at place) (data_moved e.tid o u ∙ ap (λ (live : Bool). named_data o.named (own_of live u)) (is_another tid u found differs))
           ∙ named_kept place o.named (sym (events_say place) ∙ quiet) u.specific
           ∙ ap (λ (x : Thread). value_at place x.specific) (same_Some u was (sym found ∙ was_found));
-      deleted = λ gone. ap (value_at place) (data_moved e.tid o u) ∙ named_gone place o.named (sym (events_say place) ∙ gone) (own_of (is_live_thread e.tid u) u);
+      deleted = λ gone. ap (value_at place) (data_moved e.tid o u) ∙ named_gone place o.named (sym (events_say place) ∙ gone) (own_of (has_valid_id e.tid u) u);
       made = λ said.
           let makes : Makes place p.shared.keys o = case_makes place (case_of_step script config r.world p e t moves) said in
-          ap (value_at place) (data_moved e.tid o u) ∙ makes.kept u.specific (is_live_thread e.tid u)
+          ap (value_at place) (data_moved e.tid o u) ∙ makes.kept u.specific (has_valid_id e.tid u)
           ∙ ((keys_of_run script config before r is e.pid p (process_taken script config before r is e p t taken)).empty tid u found place makes.unused).0;
       new = λ none. absurd (none-some u (sym none ∙ found));
     }

@@ -1,11 +1,11 @@
 -- The law of calls, of a step: each event which says that a function is called comes with its call.
 use Rattle.pct_names.proofs.Names.{[], All-from_recursion, AllByRecursion, and_parts, ap, at_pc, Bool, changed, cond, Config, Entry}
-use Rattle.pct_names.proofs.Names.{eqb-false, Event, false, false≢true, Frame, FrameKind, if_number, is_due, is_live_thread, is_none}
-use Rattle.pct_names.proofs.Names.{is_some, Key, key_at, key_place, key_with, KeyPlace, KeyValues, List, moved, named_after, nat_eq}
-use Rattle.pct_names.proofs.Names.{new_frame, next_in, next_of, NextStatement, None, none-some, not, not-true, Option, option_map_or}
-use Rattle.pct_names.proofs.Names.{Others, others_of, own_after, Process, process_after, refl, Run, run, same_Some, Script, shared_after}
-use Rattle.pct_names.proofs.Names.{Some, StatementIn, Status, Stmt, subst, suc, sym, Thread, thread_at, Transition, transition_by, true}
-use Rattle.pct_names.proofs.Names.{value_at, value_of, What, without_first, ℕ, ◌∙◌, ◌∷◌, ◌≡◌, ◌≢◌}
+use Rattle.pct_names.proofs.Names.{Environment, environment_of, eqb-false, Event, false, false≢true, Frame, FrameKind, has_valid_id}
+use Rattle.pct_names.proofs.Names.{if_number, is_due, is_none, is_some, Key, key_at, key_place, key_with, KeyPlace, KeyValues, List, moved}
+use Rattle.pct_names.proofs.Names.{named_after, nat_eq, new_frame, next_in, next_of, NextStatement, None, none-some, not, not-true, Option}
+use Rattle.pct_names.proofs.Names.{option_map_or, own_after, Process, process_after, refl, Run, run, same_Some, Script, shared_after, Some}
+use Rattle.pct_names.proofs.Names.{StatementIn, Status, Stmt, subst, suc, sym, Thread, thread_at, Transition, transition_by, true, value_at}
+use Rattle.pct_names.proofs.Names.{value_of, What, without_first, ℕ, ◌∙◌, ◌∷◌, ◌≡◌, ◌≢◌}
 use Rattle.std.proofs.Common.{eqb-true}
 use Rattle.pct_model.specs.declared.event.What.TheVariants as what
 use Rattle.pct_model.specs.declared.state.FrameKind.TheVariants as kind
@@ -94,7 +94,7 @@ quiet_called script s _ quiet = tt
 
 -- ---- a transition
 
-module _ (script : Script) (passes pid tid : ℕ) (earlier : List Event) (p : Process) (t : Thread) (others : Others) (kept : KeysKept script p.shared.keys) where
+module _ (script : Script) (passes pid tid : ℕ) (earlier : List Event) (p : Process) (t : Thread) (environment : Environment) (kept : KeysKept script p.shared.keys) where
   -- the step of a transition of the thread
   abbrev step_by : Transition → ThreadStep
   step_by o = record { pid = pid; tid = tid; earlier = earlier; process = p; before = t; process_after = changed tid o p; after = named_after o.named (moved o t); events = o.events }
@@ -105,7 +105,7 @@ module _ (script : Script) (passes pid tid : ℕ) (earlier : List Event) (p : Pr
 
   -- each event of a transition which says that a function is called comes with its call
   case_called : {frames : List Frame} {body : List Stmt} {next : NextStatement} {s : Status} {o : Transition} → t.frames ≡ frames → t.status ≡ s → IsPlaced script frames body next
-      → TransitionCase passes body p.shared t others true next s o → AllByRecursion (λ w. IsCalled script w (step_by o)) o.events
+      → TransitionCase passes body p.shared t environment true next s o → AllByRecursion (λ w. IsCalled script w (step_by o)) o.events
   unfolding thread_at own_after named_after shared_after process_after key_with
   case_called frames_are status_is place (handler_run next f a handlers is) = (runs_only f a kind.Handler _ refl refl, tt)
   case_called frames_are status_is place (destructor_called next k f key none is named among) =
@@ -182,9 +182,9 @@ module _ (script : Script) (config : Config) where
   called_of_step before r is e p t taken =
       let o : Transition = transition_by script config r.world p t e.alt in
       let moves : Moves script config r.world p e t = moves_of_run script config before r is e p t taken in
-      let live : is_live_thread e.tid t ≡ true = (mover script config r.world p e t moves).live in
+      let live : has_valid_id e.tid t ≡ true = (mover script config r.world p e t moves).valid in
       let kept : KeysKept script p.shared.keys = (keys_of_run script config before r is e.pid p (process_taken script config before r is e p t taken)).keys in
-      let called = case_called script config.passes e.pid e.tid r.events p t (others_of config.slots r.world p t.id) kept refl refl (is_placed script t.frames) (case_of_step script config r.world p e t moves) in
+      let called = case_called script config.passes e.pid e.tid r.events p t (environment_of config.slots r.world p t.id) kept refl refl (is_placed script t.frames) (case_of_step script config r.world p e t moves) in
       All-from_recursion (λ w. IsCalled script w (step_of script config r p e t)) o.events
       (subst (λ (b : Bool). AllByRecursion (λ w. IsCalled script w (record (step_of script config r p e t) { after = named_after o.named (cond b (moved o t) t) })) o.events) (sym live) called)
 

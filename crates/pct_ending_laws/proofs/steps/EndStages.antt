@@ -1,13 +1,13 @@
 -- The law of the stages of an end, of a step: what each event of an end begins with.
 use Rattle.pct_names.proofs.Names.{◌&&◌, ◌++◌, [], acts, acts_on_request, acts_or, Alt, and_from, and_parts, ap, ap₂, arith, body_at, Bool}
-use Rattle.pct_names.proofs.Names.{calls_destructor, cond, Config, due_places, end_value, ends_thread, Entry, false, false≢true, filter}
-use Rattle.pct_names.proofs.Names.{Frame, goes_on_ending, is_empty, is_last, is_left, is_some, Key, key_at, KeyPlace, KeyValues}
-use Rattle.pct_names.proofs.Names.{left_keys, left_places, length, List, list_all, list_any, map, MAX_KEYS, NamedAction, nat_eq, nat_le}
-use Rattle.pct_names.proofs.Names.{next_of, NextStatement, None, NoStatement, not, number_at, Option, option_and_then, option_map}
-use Rattle.pct_names.proofs.Names.{option_map_or, or_left, or_right, Others, others_of, OwnAction, Process, range_with_len, Reason, refl}
-use Rattle.pct_names.proofs.Names.{Run, run, Script, SharedState, slice_get, slice_get-map, Some, StatementIn, Status, Stmt, subst, suc}
-use Rattle.pct_names.proofs.Names.{sym, Thread, thread_moved, thread_with, Transition, transition_at, transition_by, true, unwrap_or}
-use Rattle.pct_names.proofs.Names.{unwrap_or-slice_get, value_at, was_reclaimed, What, with_pass, ◌||◌, ℕ, ◌∙◌, ◌∷◌, ◌≡◌}
+use Rattle.pct_names.proofs.Names.{calls_destructor, cond, Config, due_places, end_value, ends_thread, Entry, Environment, environment_of}
+use Rattle.pct_names.proofs.Names.{false, false≢true, filter, Frame, goes_on_ending, is_empty, is_last, is_left, is_some, Key, key_at}
+use Rattle.pct_names.proofs.Names.{KeyPlace, KeyValues, left_keys, left_places, length, List, list_all, list_any, map, MAX_KEYS}
+use Rattle.pct_names.proofs.Names.{NamedAction, nat_eq, nat_le, next_of, NextStatement, None, NoStatement, not, number_at, Option}
+use Rattle.pct_names.proofs.Names.{option_and_then, option_map, option_map_or, or_left, or_right, OwnAction, Process, range_with_len}
+use Rattle.pct_names.proofs.Names.{Reason, refl, Run, run, Script, SharedState, slice_get, slice_get-map, Some, StatementIn, Status, Stmt}
+use Rattle.pct_names.proofs.Names.{subst, suc, sym, Thread, thread_moved, thread_with, Transition, transition_at, transition_by, true}
+use Rattle.pct_names.proofs.Names.{unwrap_or, unwrap_or-slice_get, value_at, was_reclaimed, What, with_pass, ◌||◌, ℕ, ◌∙◌, ◌∷◌, ◌≡◌}
 use Rattle.std.proofs.Common.{eq-eqb}
 use Rattle.std.proofs.lemmas.Bool.{eq-eqb, lt-ltb, le-leb}
 use Rattle.pct_model.specs.declared.event.What.TheVariants as what
@@ -15,17 +15,18 @@ use Rattle.pct_model.specs.declared.schedule.Alt.TheVariants as alt
 use Rattle.pct_model.specs.declared.state.Status.TheVariants as status
 use Rattle.pct_model.specs.declared.transition.OwnAction.TheVariants as own_action
 use Rattle.pct_laws.specs.AfterEnd.{begins_exit_with_0}
-use Rattle.pct_laws.specs.Ends.{count_due, is_due, is_in_pass, none_left, takes_due, reports_left, is_status_ending, is_at_stage}
+use Rattle.pct_laws.specs.Ends.{count_due, is_due, is_in_pass, is_pass_over, takes_due, reports_left, is_status_ending, is_at_stage}
 use Rattle.pct_laws.specs.Ends.{has_run_handlers, others_have_ended, thread_may_end, each_may_begin}
 use Rattle.pct_laws.specs.KnownThreads.{reports_end}
 use Rattle.pct_laws.specs.ThreadSteps.{ThreadStep}
 use Rattle.pct_laws.specs.ThreadSummary.{ThreadSummary}
-use Rattle.pct_transition_cases.proofs.TransitionCases.{TransitionCase, fork_handler_called, handler_run, destructor_called, pass_begun, thread_ended, thread_ended_with_keys, last_ended, last_ended_with_keys}
+use Rattle.pct_transition_cases.proofs.TransitionCases.{TransitionCase, fork_handler_called, handler_run, destructor_called, pass_begun}
+use Rattle.pct_transition_cases.proofs.TransitionCases.{thread_ended, thread_ended_with_keys, last_ended, last_ended_with_keys}
 use Rattle.pct_thread_invariants.proofs.ThreadsOfRun.{threads_fit}
 use Rattle.pct_thread_invariants.proofs.lift.EveryProcess.{process_taken, moves_of_run}
 use Rattle.pct_thread_invariants.proofs.lift.EveryThread.{of_made_thread}
 use Rattle.pct_thread_invariants.proofs.lift.HandlerEvents.{of_each_phase}
-use Rattle.pct_thread_invariants.proofs.lift.MadeThreads.{IsLive}
+use Rattle.pct_thread_invariants.proofs.lift.MadeThreads.{HasValidId}
 use Rattle.pct_thread_invariants.proofs.lift.TakenSteps.{IsTaken}
 use Rattle.pct_thread_invariants.proofs.lift.ThreadsAfter.{Moves, mover}
 use Rattle.pct_thread_invariants.proofs.keys.KeptKeys.{own_data, named_data}
@@ -46,7 +47,7 @@ none_passes number test (x ∷ xs) none = by (test x) none (none_passes number t
     by false rest later = later rest
 
 -- where no key is left in the pass, the destructor of no key of the pass is due
-none_due : (keys : List KeyPlace) (t : Thread) → left_keys keys t.specific ≡ [] → none_left keys t ≡ true
+none_due : (keys : List KeyPlace) (t : Thread) → left_keys keys t.specific ≡ [] → is_pass_over keys t ≡ true
 unfolding left_places
 none_due keys t none = ap not (none_passes (number_at keys) (is_left keys t.specific) (range_with_len 0 MAX_KEYS) none)
 
@@ -87,7 +88,7 @@ ends_and_exits : (left v : ℕ) (none : Bool) → exits_if_ends (cond none [] (w
 ends_and_exits left v true = refl
 ends_and_exits left v false = refl
 
-module _ (passes : ℕ) (body : List Stmt) (shared : SharedState) (t : Thread) (others : Others) (alone : others.is_last ≡ true) where
+module _ (passes : ℕ) (body : List Stmt) (shared : SharedState) (t : Thread) (environment : Environment) (alone : environment.is_last ≡ true) where
   -- a destructor that is called, a pass that begins or the end, and each stage of the end of the last thread
   destructor_exits : (k value : ℕ) (destructor : Option ℕ) → exits_if_ends (calls_destructor t.pass k value destructor).events ≡ true
   unfolding calls_destructor
@@ -100,14 +101,14 @@ module _ (passes : ℕ) (body : List Stmt) (shared : SharedState) (t : Thread) (
   stage_exits false true is left v = ends_and_exits left v (nat_eq left 0)
   stage_exits false false is left v = absurd (false≢true is)
 
-  ending_exits : (choice : Alt) (handlers : List (ℕ × ℕ)) → exits_if_ends (goes_on_ending others.is_last passes shared.keys t choice handlers).events ≡ true
+  ending_exits : (choice : Alt) (handlers : List (ℕ × ℕ)) → exits_if_ends (goes_on_ending environment.is_last passes shared.keys t choice handlers).events ≡ true
   unfolding goes_on_ending
   ending_exits choice (handler ∷ handlers) = refl
   ending_exits (alt.Dtor k) [] = destructor_exits k _ _
-  ending_exits _ [] = stage_exits _ others.is_last alone _ _
+  ending_exits _ [] = stage_exits _ environment.is_last alone _ _
 
   -- the last thread of a process that ends begins to exit the process
-  last_exits : (choice : Alt) (next : NextStatement) → exits_if_ends (acts_or choice status.Ending (transition_at passes body shared t others choice next status.Ending)).events ≡ true
+  last_exits : (choice : Alt) (next : NextStatement) → exits_if_ends (acts_or choice status.Ending (transition_at passes body shared t environment choice next status.Ending)).events ≡ true
   unfolding transition_at acts_on_request
   last_exits (alt.Act n) next = refl
   last_exits choice NoStatement = ending_exits choice t.handlers
@@ -138,7 +139,7 @@ unless : (a b : Bool) → (a ≡ true → b ≡ true) → (not a || b) ≡ true
 unless true b then = then refl
 unless false b then = refl
 
-module _ (passes : ℕ) (step : ThreadStep) (others : Others) (frames : is_status_ending step.before.status ≡ true → step.before.frames ≡ []) (last : others_have_ended step.before.id step.process ≡ true → others.is_last ≡ true) where
+module _ (passes : ℕ) (step : ThreadStep) (environment : Environment) (frames : is_status_ending step.before.status ≡ true → step.before.frames ≡ []) (last : others_have_ended step.before.id step.process ≡ true → environment.is_last ≡ true) where
   -- its process and its thread, before it
   abbrev p : Process
   p = step.process
@@ -163,7 +164,7 @@ module _ (passes : ℕ) (step : ThreadStep) (others : Others) (frames : is_statu
 
   -- the thread ends without a key that is due, or with some
   ends_with : (events : List What) → t.status ≡ status.Ending → t.handlers ≡ [] → left_keys p.shared.keys t.specific ≡ [] → (nat_eq due 0 || nat_le passes t.pass) ≡ true → (nat_eq due 0 || list_any (reports_left due) events) ≡ true
-      → (others.is_last ≡ true → list_any begins_exit_with_0 events ≡ true) → thread_may_end passes (step_with events) ≡ true
+      → (environment.is_last ≡ true → list_any begins_exit_with_0 events ≡ true) → thread_may_end passes (step_with events) ≡ true
   ends_with events is none nothing_left passed reported if_last =
       and_from _ _ (and_from _ _ (and_from _ _ (and_from _ _ (has_run is none) (none_due p.shared.keys t nothing_left)) passed) (unless (others_have_ended t.id p) _ (λ ended. if_last (last ended)))) reported
 
@@ -172,25 +173,25 @@ module _ (passes : ℕ) (step : ThreadStep) (others : Others) (frames : is_statu
   end = what.EndedWith (end_value t.reason)
 
   -- each event of a transition may come in its step
-  case_begins : {body : List Stmt} {next : NextStatement} {s : Status} {o : Transition} → t.status ≡ s → (others.is_last ≡ true → s ≡ status.Ending → exits_if_ends o.events ≡ true) → (o.own ≡ Some own_action.BeginPass → o.named ≡ None → step.after.specific ≡ with_pass t.specific)
-      → TransitionCase passes body p.shared t others true next s o → each_may_begin passes (step_with o.events) ≡ true
+  case_begins : {body : List Stmt} {next : NextStatement} {s : Status} {o : Transition} → t.status ≡ s → (environment.is_last ≡ true → s ≡ status.Ending → exits_if_ends o.events ≡ true) → (o.own ≡ Some own_action.BeginPass → o.named ≡ None → step.after.specific ≡ with_pass t.specific)
+      → TransitionCase passes body p.shared t environment true next s o → each_may_begin passes (step_with o.events) ≡ true
   unfolding due_places
   case_begins is alone pass (handler_run next f a handlers has) = and_from _ _ (at_stage is) refl
   case_begins is alone pass (destructor_called next k f key none found named among) = and_from _ _ (and_from _ _ (has_run is none) (eq-eqb t.pass t.pass refl)) refl
-  case_begins is alone pass (pass_begun next none more some_due none_left) =
-      and_from _ _ (and_from _ _ (and_from _ _ (and_from _ _ (and_from _ _ (has_run is none) (none_due p.shared.keys t (none_left refl))) (lt-ltb 0 due some_due)) (eq-eqb (suc t.pass) (suc t.pass) refl)) (all_taken p.shared.keys t step.after (pass refl refl))) refl
-  case_begins is alone pass (thread_ended next none nothing_due none_left) =
+  case_begins is alone pass (pass_begun next none more some_due is_pass_over) =
+      and_from _ _ (and_from _ _ (and_from _ _ (and_from _ _ (and_from _ _ (has_run is none) (none_due p.shared.keys t (is_pass_over refl))) (lt-ltb 0 due some_due)) (eq-eqb (suc t.pass) (suc t.pass) refl)) (all_taken p.shared.keys t step.after (pass refl refl))) refl
+  case_begins is alone pass (thread_ended next none nothing_due is_pass_over) =
       let nothing : nat_eq due 0 ≡ true = eq-eqb due 0 nothing_due in
-      and_from _ _ (ends_with (end ∷ []) is none (none_left refl) (or_left (nat_eq due 0) _ nothing) (or_left (nat_eq due 0) _ nothing) (λ is_last. absurd (false≢true (alone is_last refl)))) refl
-  case_begins is alone pass (thread_ended_with_keys next left none some limit all none_left) =
+      and_from _ _ (ends_with (end ∷ []) is none (is_pass_over refl) (or_left (nat_eq due 0) _ nothing) (or_left (nat_eq due 0) _ nothing) (λ is_last. absurd (false≢true (alone is_last refl)))) refl
+  case_begins is alone pass (thread_ended_with_keys next left none some limit all is_pass_over) =
       and_from _ _ (and_from _ _ (eq-eqb left due all) (lt-ltb 0 left some))
-      (and_from _ _ (ends_with (what.Leftover left ∷ end ∷ []) is none (none_left refl) (or_right (nat_eq due 0) _ (le-leb passes t.pass limit)) (or_right (nat_eq due 0) _ (or_left (nat_eq left due) _ (eq-eqb left due all))) (λ is_last. absurd (false≢true (alone is_last refl)))) refl)
-  case_begins is alone pass (last_ended next none is_last nothing_due none_left) =
+      (and_from _ _ (ends_with (what.Leftover left ∷ end ∷ []) is none (is_pass_over refl) (or_right (nat_eq due 0) _ (le-leb passes t.pass limit)) (or_right (nat_eq due 0) _ (or_left (nat_eq left due) _ (eq-eqb left due all))) (λ is_last. absurd (false≢true (alone is_last refl)))) refl)
+  case_begins is alone pass (last_ended next none is_last nothing_due is_pass_over) =
       let nothing : nat_eq due 0 ≡ true = eq-eqb due 0 nothing_due in
-      and_from _ _ (ends_with (end ∷ what.ExitBegun 0 ∷ []) is none (none_left refl) (or_left (nat_eq due 0) _ nothing) (or_left (nat_eq due 0) _ nothing) (λ is_last. refl)) refl
-  case_begins is alone pass (last_ended_with_keys next left none is_last some limit all none_left) =
+      and_from _ _ (ends_with (end ∷ what.ExitBegun 0 ∷ []) is none (is_pass_over refl) (or_left (nat_eq due 0) _ nothing) (or_left (nat_eq due 0) _ nothing) (λ is_last. refl)) refl
+  case_begins is alone pass (last_ended_with_keys next left none is_last some limit all is_pass_over) =
       and_from _ _ (and_from _ _ (eq-eqb left due all) (lt-ltb 0 left some))
-      (and_from _ _ (ends_with (what.Leftover left ∷ end ∷ what.ExitBegun 0 ∷ []) is none (none_left refl) (or_right (nat_eq due 0) _ (le-leb passes t.pass limit)) (or_right (nat_eq due 0) _ (or_left (nat_eq left due) _ (eq-eqb left due all))) (λ is_last. refl)) refl)
+      (and_from _ _ (ends_with (what.Leftover left ∷ end ∷ what.ExitBegun 0 ∷ []) is none (is_pass_over refl) (or_right (nat_eq due 0) _ (le-leb passes t.pass limit)) (or_right (nat_eq due 0) _ (or_left (nat_eq left due) _ (eq-eqb left due all))) (λ is_last. refl)) refl)
   case_begins is alone pass (fork_handler_called next at call handler) = of_each_phase (λ (w : What). each_may_begin passes (step_with (w ∷ [])) ≡ true) call.func refl refl refl at.phase
   case_begins is alone pass _ = refl
 
@@ -199,23 +200,23 @@ module _ (passes : ℕ) (step : ThreadStep) (others : Others) (frames : is_statu
 module _ (script : Script) (config : Config) where
   -- so it is of the step of an entry that moves a thread
   may_begin_of_step : (before : List Entry) (r : Run) → run script config before ≡ Some r → (e : Entry) (p : Process) (t : Thread) → IsTaken script config r.world e p t → each_may_begin config.passes (step_of script config r p e t) ≡ true
-  unfolding others_of
+  unfolding environment_of
   may_begin_of_step before r is e p t taken =
       let passes : ℕ = config.passes in
       let o : Transition = transition_by script config r.world p t e.alt in
-      let others : Others = others_of config.slots r.world p t.id in
+      let environment : Environment = environment_of config.slots r.world p t.id in
       let moves : Moves script config r.world p e t = moves_of_run script config before r is e p t taken in
-      let it : IsLive p e.tid t = mover script config r.world p e t moves in
+      let it : HasValidId p e.tid t = mover script config r.world p e t moves in
       let made = process_taken script config before r is e p t taken in
       let reported : ThreadSummary = reported_by (of_thread summary e.tid) e.pid r.events in
       let fits : FitsAny script passes t reported = of_made_thread summary (FitsAny script passes) r (threads_fit script config before r is) e.pid e.tid t (ap (option_and_then (thread_with e.tid)) made ∙ it.found) it.here in
       let body : List Stmt = body_at script t.frames in
       let next : NextStatement = next_of script t.frames in
-      let exits : others.is_last ≡ true → t.status ≡ status.Ending → exits_if_ends o.events ≡ true = λ alone ending.
-      subst (λ (st : Status). exits_if_ends (acts_or e.alt st (transition_at passes body p.shared t others e.alt next st)).events ≡ true) (sym ending) (last_exits passes body p.shared t others alone e.alt next) in
+      let exits : environment.is_last ≡ true → t.status ≡ status.Ending → exits_if_ends o.events ≡ true = λ alone ending.
+      subst (λ (st : Status). exits_if_ends (acts_or e.alt st (transition_at passes body p.shared t environment e.alt next st)).events ≡ true) (sym ending) (last_exits passes body p.shared t environment alone e.alt next) in
       let pass : o.own ≡ Some own_action.BeginPass → o.named ≡ None → (thread_moved e.tid o t).specific ≡ with_pass t.specific = λ begins none.
-      data_moved e.tid o t ∙ ap (λ (live : Bool). named_data o.named (cond live (own_data o.own t.specific) t.specific)) it.live ∙ ap₂ (λ (a : Option OwnAction) (n : Option NamedAction). named_data n (own_data a t.specific)) begins none in
-      case_begins passes (step_of script config r p e t) others (no_frames script t.status t.reason t.frames t.handlers reported fits.by_status) (last_of_others t.id p.threads) refl exits pass (case_of_step script config r.world p e t moves)
+      data_moved e.tid o t ∙ ap (λ (live : Bool). named_data o.named (cond live (own_data o.own t.specific) t.specific)) it.valid ∙ ap₂ (λ (a : Option OwnAction) (n : Option NamedAction). named_data n (own_data a t.specific)) begins none in
+      case_begins passes (step_of script config r p e t) environment (no_frames script t.status t.reason t.frames t.handlers reported fits.by_status) (last_of_others t.id p.threads) refl exits pass (case_of_step script config r.world p e t moves)
 
   -- each event of a step may come in it
   pub each_may_begin_of_run : EveryStep script config (λ s. each_may_begin config.passes s ≡ true)

@@ -1,7 +1,7 @@
 -- The law of calls, of a step: the functions that are registered with atexit change by atexit alone, unless one of them is called.
-use Rattle.pct_names.proofs.Names.{body_at, Config, Entry, false, inl, inr, List, list_any, next_of, NextStatement, Others, others_of}
-use Rattle.pct_names.proofs.Names.{Process, refl, Run, run, Script, shared_after, shared_moved, SharedState, Some, StatementIn, Status}
-use Rattle.pct_names.proofs.Names.{Stmt, subst, sym, Thread, Transition, transition_by, true, ℕ, ◌≡◌}
+use Rattle.pct_names.proofs.Names.{body_at, Config, Entry, Environment, environment_of, false, inl, inr, List, list_any, next_of}
+use Rattle.pct_names.proofs.Names.{NextStatement, Process, refl, Run, run, Script, shared_after, shared_moved, SharedState, Some}
+use Rattle.pct_names.proofs.Names.{StatementIn, Status, Stmt, subst, sym, Thread, Transition, transition_by, true, ℕ, ◌≡◌}
 use Rattle.std.proofs.lemmas.Bool.{true≢false}
 use Rattle.pct_model.specs.declared.statement.Stmt.TheVariants as statement
 use Rattle.pct_laws.specs.Calls.{calls_exit_function, KeepsExits, KeepsExitFunctions}
@@ -17,9 +17,9 @@ same_kept : (next : NextStatement) (functions : List ℕ) → KeepsExits next fu
 same_kept (StatementIn frame (statement.AtExit result f)) functions = inr refl
 same_kept _ functions = refl
 
-module _ (passes : ℕ) (body : List Stmt) (shared : SharedState) (t : Thread) (others : Others) where
+module _ (passes : ℕ) (body : List Stmt) (shared : SharedState) (t : Thread) (environment : Environment) where
   -- the registered functions after a transition that calls none of them
-  case_kept : {next : NextStatement} {s : Status} {o : Transition} → TransitionCase passes body shared t others true next s o
+  case_kept : {next : NextStatement} {s : Status} {o : Transition} → TransitionCase passes body shared t environment true next s o
       → list_any calls_exit_function o.events ≡ false → KeepsExits next shared.exit_functions (shared_moved o shared).exit_functions
   unfolding shared_after
   case_kept (exit_registered frame result f may) none = inl refl
@@ -35,7 +35,7 @@ module _ (script : Script) (config : Config) where
       let o : Transition = transition_by script config r.world p t e.alt in
       let moves : Moves script config r.world p e t = moves_of_run script config before r is e p t taken in
       subst (λ (after : SharedState). KeepsExits (next_of script t.frames) p.shared.exit_functions after.exit_functions) (sym (changed_shared e.tid o p))
-      (case_kept config.passes (body_at script t.frames) p.shared t (others_of config.slots r.world p t.id) (case_of_step script config r.world p e t moves) none)
+      (case_kept config.passes (body_at script t.frames) p.shared t (environment_of config.slots r.world p t.id) (case_of_step script config r.world p e t moves) none)
 
   -- a step without an event that a function registered with atexit is called changes the registered functions by atexit alone
   pub keeps_exit_functions_of_run : EveryStep script config (KeepsExitFunctions script)

@@ -1,8 +1,8 @@
 -- The law of calls, of a step: the key on each place stays, unless an event says that a key on it is made or deleted.
-use Rattle.pct_names.proofs.Names.{◌+◌, ap, body_at, Config, Entry, eqb-false, false, key_at, key_place, KeyPlace, List, list_any, nat_eq}
-use Rattle.pct_names.proofs.Names.{NextStatement, None, on_place, Option, option_map_or, or_parts, Others, others_of, Process, refl, Run}
-use Rattle.pct_names.proofs.Names.{run, Script, set, shared_after, shared_moved, SharedState, slice_get, Some, Status, Stmt, Thread}
-use Rattle.pct_names.proofs.Names.{Transition, transition_by, true, value_of, ◌||◌, ℕ, ◌∙◌, ◌≡◌, ◌≢◌}
+use Rattle.pct_names.proofs.Names.{◌+◌, ap, body_at, Config, Entry, Environment, environment_of, eqb-false, false, key_at, key_place}
+use Rattle.pct_names.proofs.Names.{KeyPlace, List, list_any, nat_eq, NextStatement, None, on_place, Option, option_map_or, or_parts}
+use Rattle.pct_names.proofs.Names.{Process, refl, Run, run, Script, set, shared_after, shared_moved, SharedState, slice_get, Some, Status}
+use Rattle.pct_names.proofs.Names.{Stmt, Thread, Transition, transition_by, true, value_of, ◌||◌, ℕ, ◌∙◌, ◌≡◌, ◌≢◌}
 use Rattle.pct_laws.specs.Calls.{changes_key, KeepsKeys}
 use Rattle.pct_transition_cases.proofs.TransitionCases.{TransitionCase, key_made, key_deleted}
 use Rattle.pct_ending_laws.proofs.KeyEvents.{key_set_other}
@@ -24,9 +24,9 @@ key_on_other keys i j change differs = by_found (slice_get keys i)
 other_place : (k place : ℕ) → (nat_eq (key_place k) place || false) ≡ false → key_place k ≢ place
 other_place k place none = eqb-false (key_place k) place (or_parts (nat_eq (key_place k) place) false none).0
 
-module _ (passes : ℕ) (body : List Stmt) (shared : SharedState) (t : Thread) (others : Others) (place : ℕ) where
+module _ (passes : ℕ) (body : List Stmt) (shared : SharedState) (t : Thread) (environment : Environment) (place : ℕ) where
   -- the key on the place after a transition without an event of a key on it
-  case_kept : {next : NextStatement} {s : Status} {o : Transition} → TransitionCase passes body shared t others true next s o
+  case_kept : {next : NextStatement} {s : Status} {o : Transition} → TransitionCase passes body shared t environment true next s o
       → list_any (changes_key place) o.events ≡ false → key_at (shared_moved o shared).keys place ≡ key_at shared.keys place
   unfolding shared_after
   case_kept (key_made frame result key destructor k among) none =
@@ -45,7 +45,7 @@ module _ (script : Script) (config : Config) where
       let o : Transition = transition_by script config r.world p t e.alt in
       let moves : Moves script config r.world p e t = moves_of_run script config before r is e p t taken in
       ap (λ (after : SharedState). key_at after.keys place) (changed_shared e.tid o p)
-      ∙ case_kept config.passes (body_at script t.frames) p.shared t (others_of config.slots r.world p t.id) place (case_of_step script config r.world p e t moves) none
+      ∙ case_kept config.passes (body_at script t.frames) p.shared t (environment_of config.slots r.world p t.id) place (case_of_step script config r.world p e t moves) none
 
   -- a step without an event that a key on a place is made or deleted keeps the key on it
   pub keeps_keys_of_run : EveryStep script config KeepsKeys

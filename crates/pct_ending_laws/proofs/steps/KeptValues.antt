@@ -1,8 +1,9 @@
 -- The law of values, of a step: at each place only pthread_setspecific of its key, the call of its destructor and its deletion change the
 -- value of the thread that makes the step; and only the begin of a pass and these two events change whether the place is left in its pass.
-use Rattle.pct_names.proofs.Names.{[], ap, Bool, cond, Config, Entry, eqb-false, false, key_place, KeyValues, List, list_any, nat_eq}
-use Rattle.pct_names.proofs.Names.{next_of, NextStatement, Others, Process, refl, Run, run, Script, SharedState, slice_get, Some, Status}
-use Rattle.pct_names.proofs.Names.{Stmt, sym, Thread, thread_moved, Transition, transition_by, true, value_at, value_of, ℕ, ◌∙◌, ◌∷◌, ◌≡◌, ◌≢◌}
+use Rattle.pct_names.proofs.Names.{[], ap, Bool, cond, Config, Entry, Environment, eqb-false, false, key_place, KeyValues, List, list_any}
+use Rattle.pct_names.proofs.Names.{nat_eq, next_of, NextStatement, Process, refl, Run, run, Script, SharedState, slice_get, Some, Status}
+use Rattle.pct_names.proofs.Names.{Stmt, sym, Thread, thread_moved, Transition, transition_by, true, value_at, value_of, ℕ, ◌∙◌, ◌∷◌, ◌≡◌}
+use Rattle.pct_names.proofs.Names.{◌≢◌}
 use Rattle.std.proofs.Common.{get_or-set_other}
 use Rattle.std.proofs.Math.Bool.{or-false}
 use Rattle.std.proofs.lemmas.Bool.{true≢false}
@@ -23,9 +24,9 @@ module _ (place : ℕ) where
   elsewhere : (k : ℕ) → nat_eq (key_place k) place ≡ false → place ≢ key_place k
   elsewhere k other same = eqb-false (key_place k) place other (sym same)
 
-  module _ {passes : ℕ} {shared : SharedState} {t : Thread} {others : Others} {body : List Stmt} where
+  module _ {passes : ℕ} {shared : SharedState} {t : Thread} {environment : Environment} {body : List Stmt} where
     -- where no event changes the value, and the statement does not set it, it stays
-    case_value : {next : NextStatement} {s : Status} {o : Transition} → TransitionCase passes body shared t others true next s o
+    case_value : {next : NextStatement} {s : Status} {o : Transition} → TransitionCase passes body shared t environment true next s o
         → list_any (changes_value place) o.events ≡ false → sets_value shared.globals place next ≡ false → (own : KeyValues) → value_at place (named_data o.named (own_data o.own own)) ≡ value_at place own
     case_value (specific_set frame key v named) none unset own = get_or-set_other own.values (key_place (value_of shared.globals frame key)) place (value_of shared.globals frame v) 0 (elsewhere (value_of shared.globals frame key) unset)
     case_value (key_deleted frame key named) none unset own = let k : ℕ = value_of shared.globals frame key in get_or-set_other own.values (key_place k) place 0 0 (elsewhere k (sym (or-false _) ∙ none))
@@ -33,7 +34,7 @@ module _ (place : ℕ) where
     case_value _ none unset own = refl
 
     -- where no event changes the pass at the place, the place stays in it, or out of it
-    case_pass : {next : NextStatement} {s : Status} {o : Transition} → TransitionCase passes body shared t others true next s o
+    case_pass : {next : NextStatement} {s : Status} {o : Transition} → TransitionCase passes body shared t environment true next s o
         → list_any (changes_pass place) o.events ≡ false → (own : KeyValues) → slice_get (named_data o.named (own_data o.own own)).in_pass place ≡ slice_get own.in_pass place
     case_pass (pass_begun next no_handlers below due none_left) none own = absurd (true≢false none)
     case_pass (key_deleted frame key named) none own = let k : ℕ = value_of shared.globals frame key in other_item own.in_pass (key_place k) place false (elsewhere k (sym (or-false _) ∙ none))
@@ -51,7 +52,7 @@ module _ (script : Script) (config : Config) where
     moves = moves_of_run script config before r is e p t taken
 
     data_after : (thread_moved e.tid o t).specific ≡ named_data o.named (own_data o.own t.specific)
-    data_after = data_moved e.tid o t ∙ ap (λ (live : Bool). named_data o.named (cond live (own_data o.own t.specific) t.specific)) (mover script config r.world p e t moves).live
+    data_after = data_moved e.tid o t ∙ ap (λ (live : Bool). named_data o.named (cond live (own_data o.own t.specific) t.specific)) (mover script config r.world p e t moves).valid
 
     -- what the step of an entry that moves a thread keeps at each place
     values_of_step : KeepsValues script (step_of script config r p e t)

@@ -1,9 +1,9 @@
 -- The law of calls, of a step: a frame is made by a statement that calls a function, or in a step with an event that says so.
-use Rattle.pct_names.proofs.Names.{[], ap, arith, at_pc, body_at, Bool, cond, Config, Dest, Entry, false, false≢true, Frame, frames_written}
-use Rattle.pct_names.proofs.Names.{is_live_thread, length, List, list_any, moved, nat_le, next_of, NextStatement, None, Option, Others}
-use Rattle.pct_names.proofs.Names.{others_of, own_after, OwnAction, Process, refl, Run, run, Script, SharedState, Some, Status, Stmt}
-use Rattle.pct_names.proofs.Names.{Thread, thread_at, thread_moved, Transition, transition_by, true, What, without_first, written, ◌||◌, ℕ}
-use Rattle.pct_names.proofs.Names.{◌∙◌, ◌∷◌, ◌≡◌, ◌≤◌}
+use Rattle.pct_names.proofs.Names.{[], ap, arith, at_pc, body_at, Bool, cond, Config, Dest, Entry, Environment, environment_of, false}
+use Rattle.pct_names.proofs.Names.{false≢true, Frame, frames_written, has_valid_id, length, List, list_any, moved, nat_le, next_of}
+use Rattle.pct_names.proofs.Names.{NextStatement, None, Option, own_after, OwnAction, Process, refl, Run, run, Script, SharedState, Some}
+use Rattle.pct_names.proofs.Names.{Status, Stmt, Thread, thread_at, thread_moved, Transition, transition_by, true, What, without_first}
+use Rattle.pct_names.proofs.Names.{written, ◌||◌, ℕ, ◌∙◌, ◌∷◌, ◌≡◌, ◌≤◌}
 use Rattle.std.proofs.lemmas.Bool.{le-leb}
 use Rattle.pct_model.specs.declared.statement.Dest.TheVariants as destination
 use Rattle.pct_model.specs.declared.transition.OwnAction.TheVariants as own_action
@@ -72,18 +72,18 @@ no_deeper _ none t = omega arith
 
 -- ---- a transition
 
-module _ (passes : ℕ) (body : List Stmt) (shared : SharedState) (t : Thread) (others : Others) where
+module _ (passes : ℕ) (body : List Stmt) (shared : SharedState) (t : Thread) (environment : Environment) where
   -- a transition makes no frame, or an event says that it does, or its statement calls a function
-  case_says : {next : NextStatement} {s : Status} {o : Transition} → TransitionCase passes body shared t others true next s o
+  case_says : {next : NextStatement} {s : Status} {o : Transition} → TransitionCase passes body shared t environment true next s o
       → (makes_no_frame o.own || (list_any says_call o.events || calls_function next)) ≡ true
   case_says (fork_handler_called next at call is) = of_each_phase (λ (w : What). (list_any says_call (w ∷ []) || calls_function next) ≡ true) call.func refl refl refl at.phase
   case_says _ = refl
 
 -- a transition of a thread which makes no frame leaves it with no more frames
-moved_depth : (tid : ℕ) (o : Transition) (t : Thread) → is_live_thread tid t ≡ true → makes_no_frame o.own ≡ true → depth (thread_moved tid o t) ≤ depth t
+moved_depth : (tid : ℕ) (o : Transition) (t : Thread) → has_valid_id tid t ≡ true → makes_no_frame o.own ≡ true → depth (thread_moved tid o t) ≤ depth t
 moved_depth tid o t live none =
-    let named : depth (thread_moved tid o t) ≡ depth (cond (is_live_thread tid t) (moved o t) t) = named_keeps depth (λ t joined pending detached specific s same. refl) o.named (cond (is_live_thread tid t) (moved o t) t) in
-    let own : depth (cond (is_live_thread tid t) (moved o t) t) ≡ depth (moved o t) = ap (λ (b : Bool). depth (cond b (moved o t) t)) live in
+    let named : depth (thread_moved tid o t) ≡ depth (cond (has_valid_id tid t) (moved o t) t) = named_keeps depth (λ t joined pending detached specific s same. refl) o.named (cond (has_valid_id tid t) (moved o t) t) in
+    let own : depth (cond (has_valid_id tid t) (moved o t) t) ≡ depth (moved o t) = ap (λ (b : Bool). depth (cond b (moved o t) t)) live in
     let at : Thread = thread_at o.next t in
     let frames : List Frame = written frames_written o.writes at.frames in
     omega (arith, named, own, no_deeper o.own none (record at { frames = frames }), all_written_depth o.writes at.frames, start_depth o.next t)
@@ -97,8 +97,8 @@ module _ (script : Script) (config : Config) where
       let o : Transition = transition_by script config r.world p t e.alt in
       let moves : Moves script config r.world p e t = moves_of_run script config before r is e p t taken in
       by_test (nat_le (depth (thread_moved e.tid o t)) (depth t)) (makes_no_frame o.own) (list_any says_call o.events) (calls_function (next_of script t.frames))
-      (λ none. le-leb _ _ (moved_depth e.tid o t (mover script config r.world p e t moves).live none))
-      (case_says config.passes (body_at script t.frames) p.shared t (others_of config.slots r.world p t.id) (case_of_step script config r.world p e t moves))
+      (λ none. le-leb _ _ (moved_depth e.tid o t (mover script config r.world p e t moves).valid none))
+      (case_says config.passes (body_at script t.frames) p.shared t (environment_of config.slots r.world p t.id) (case_of_step script config r.world p e t moves))
     where
       by_test : (kept none said calls : Bool) → (none ≡ true → kept ≡ true) → (none || (said || calls)) ≡ true → (kept || calls || said) ≡ true
       by_test true none said calls if_none one = refl

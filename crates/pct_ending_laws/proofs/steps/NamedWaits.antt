@@ -1,10 +1,10 @@
 -- A call suspends its thread for what the operands of the statement name; and a thread that does not run goes on by the events of its call
 -- alone, which name what it was suspended for, or by those of a stage of its fork, its end or its exit.
 use Rattle.pct_names.proofs.Names.{◌&&◌, [], and_from, body_at, Bool, Cause, cond, cond_wait_point, Config, EAGAIN, ECHILD, Entry}
-use Rattle.pct_names.proofs.Names.{false, has_left_wait, is_live_thread, List, list_any, moved, named_after, nat_eq, next_of}
-use Rattle.pct_names.proofs.Names.{NextStatement, not, Others, others_of, own_after, Process, refl, Run, run, Script, SharedState}
-use Rattle.pct_names.proofs.Names.{Some, Status, Stmt, subst, sym, Thread, thread_at, Transition, transition_by, true, value_of, What}
-use Rattle.pct_names.proofs.Names.{◌||◌, ℕ, ◌∷◌, ◌≡◌}
+use Rattle.pct_names.proofs.Names.{Environment, environment_of, false, has_left_wait, has_valid_id, List, list_any, moved, named_after}
+use Rattle.pct_names.proofs.Names.{nat_eq, next_of, NextStatement, not, own_after, Process, refl, Run, run, Script, SharedState, Some}
+use Rattle.pct_names.proofs.Names.{Status, Stmt, subst, sym, Thread, thread_at, Transition, transition_by, true, value_of, What, ◌||◌, ℕ}
+use Rattle.pct_names.proofs.Names.{◌∷◌, ◌≡◌}
 use Rattle.std.proofs.Common.{eq-eqb}
 use Rattle.std.proofs.lemmas.Bool.{true≢false}
 use Rattle.pct_model.specs.declared.event.What.TheVariants as what
@@ -40,13 +40,13 @@ left c m cause.Signalled stays = same c
 left c m cause.Broadcast stays = same c
 left c m cause.Canceled stays = absurd (true≢false stays)
 
-module _ (passes : ℕ) (body : List Stmt) (shared : SharedState) (t : Thread) (others : Others) where
+module _ (passes : ℕ) (body : List Stmt) (shared : SharedState) (t : Thread) (environment : Environment) where
   -- the status of the thread after its transition
   abbrev status_after : Transition → Status
   status_after o = (named_after o.named (moved o t)).status
 
   -- a call suspends the thread at its statement
-  case_suspends : {next : NextStatement} {s : Status} {o : Transition} → TransitionCase passes body shared t others true next s o → (not (list_any is_call o.events) || is_suspended_at shared.globals next (status_after o)) ≡ true
+  case_suspends : {next : NextStatement} {s : Status} {o : Transition} → TransitionCase passes body shared t environment true next s o → (not (list_any is_call o.events) || is_suspended_at shared.globals next (status_after o)) ≡ true
   unfolding thread_at own_after named_after
   case_suspends (join_begun frame id d target is other joinable alone unasked) = same (value_of shared.globals frame id)
   case_suspends (point_begun frame index required unasked) = same index
@@ -58,7 +58,7 @@ module _ (passes : ℕ) (body : List Stmt) (shared : SharedState) (t : Thread) (
   case_suspends _ = refl
 
   -- a thread that does not run goes on by its events
-  case_continues : {next : NextStatement} {s : Status} {o : Transition} → TransitionCase passes body shared t others true next s o → is_idle o ≡ false → goes_on_by s o.events ≡ true
+  case_continues : {next : NextStatement} {s : Status} {o : Transition} → TransitionCase passes body shared t environment true next s o → is_idle o ≡ false → goes_on_by s o.events ≡ true
   case_continues (rests next s alive) some = absurd (true≢false some)
   case_continues (join_ended frame operand d id v target is ended) some = same id
   case_continues (point_passed frame index i) some = same index
@@ -82,14 +82,14 @@ module _ (script : Script) (config : Config) where
   suspends_of_step before r is e p t taken =
       let o : Transition = transition_by script config r.world p t e.alt in
       let moves : Moves script config r.world p e t = moves_of_run script config before r is e p t taken in
-      let live : is_live_thread e.tid t ≡ true = (mover script config r.world p e t moves).live in
+      let live : has_valid_id e.tid t ≡ true = (mover script config r.world p e t moves).valid in
       subst (λ (b : Bool). (not (list_any is_call o.events) || is_suspended_at p.shared.globals (next_of script t.frames) (named_after o.named (cond b (moved o t) t)).status) ≡ true) (sym live)
-      (case_suspends config.passes (body_at script t.frames) p.shared t (others_of config.slots r.world p t.id) (case_of_step script config r.world p e t moves))
+      (case_suspends config.passes (body_at script t.frames) p.shared t (environment_of config.slots r.world p t.id) (case_of_step script config r.world p e t moves))
 
   continues_of_step : (before : List Entry) (r : Run) → run script config before ≡ Some r → (e : Entry) (p : Process) (t : Thread) → IsTaken script config r.world e p t
       → goes_on_by t.status (step_of script config r p e t).events ≡ true
   continues_of_step before r is e p t taken =
-      case_continues config.passes (body_at script t.frames) p.shared t (others_of config.slots r.world p t.id)
+      case_continues config.passes (body_at script t.frames) p.shared t (environment_of config.slots r.world p t.id)
       (case_of_step script config r.world p e t (moves_of_run script config before r is e p t taken)) (never_idle script config before r is e p t taken)
 
   -- each call suspends its thread for what its operands name

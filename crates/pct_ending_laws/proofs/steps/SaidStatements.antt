@@ -3,18 +3,18 @@ use Rattle.pct_names.proofs.Names.{◌&&◌, ◌<◌, [], act_if, acts_on_reques
 use Rattle.pct_names.proofs.Names.{begins_join, begins_sem_wait, begins_wait, begins_waitpid, body_at, Bool, broadcasts, by_slot}
 use Rattle.pct_names.proofs.Names.{called_kind, calls, calls_point, ChoiceRow, choices_at, cond, Config, count_by, count_by-le-length}
 use Rattle.pct_names.proofs.Names.{creates, creates_by, creates_key, creates_key_by, deletes_key, Dest, detaches, emits, ends_block}
-use Rattle.pct_names.proofs.Names.{ends_by_exit, ends_now, Entry, eqb-false, exits, fails_to_create, fails_to_create_key, false, false≢true}
-use Rattle.pct_names.proofs.Names.{finds_no_child, first_row, ForkAt, Frame, FrameKind, free_ids, gets_self, gets_specific, goes_on}
-use Rattle.pct_names.proofs.Names.{is_allowed_asynchronously, is_asynchronous, is_blocked, is_create, is_deliverable, is_forbidden_in_child}
-use Rattle.pct_names.proofs.Names.{is_key_create, is_none, is_optional, is_required, is_signal, jumps, leaves_handler, length, List}
-use Rattle.pct_names.proofs.Names.{list_any, locks, map, MAX_FORK_HANDLERS, may_register, nat_eq, nat_lt, new_keys, new_or_go, next_of}
-use Rattle.pct_names.proofs.Names.{NextStatement, None, NoStatement, not, offers, open_of, Operand, Option, Optional, or_right, Others}
-use Rattle.pct_names.proofs.Names.{others_of, pick_or_go, point_kind, PointKind, pops, pos_of_ne-zero, posts, Process, pushes, refl}
-use Rattle.pct_names.proofs.Names.{registers_fork, registers_if, requests, Required, returns_by, Run, run, running_choices, running_rows}
-use Rattle.pct_names.proofs.Names.{runs, same_choice, Script, sets, sets_mode, sets_specific, sets_state, SharedState, signals_by, Some}
-use Rattle.pct_names.proofs.Names.{StatementIn, Status, Stmt, stop_at, stops_or, subst, suc, sym, tests_cancel, Thread, Transition}
-use Rattle.pct_names.proofs.Names.{transition_at, true, unlocks, value_of, Waiter, waiters_among, waiters_to_signal, What, Why, World, ◌||◌}
-use Rattle.pct_names.proofs.Names.{ℕ, ◌∙◌, ◌∷◌, ◌≡◌}
+use Rattle.pct_names.proofs.Names.{ends_by_exit, ends_now, Entry, Environment, environment_of, eqb-false, exits, fails_to_create}
+use Rattle.pct_names.proofs.Names.{fails_to_create_key, false, false≢true, finds_no_child, first_row, ForkAt, Frame, FrameKind, free_ids}
+use Rattle.pct_names.proofs.Names.{gets_self, gets_specific, goes_on, is_allowed_asynchronously, is_asynchronous, is_blocked, is_create}
+use Rattle.pct_names.proofs.Names.{is_deliverable, is_forbidden_in_child, is_key_create, is_none, is_optional, is_required, is_signal}
+use Rattle.pct_names.proofs.Names.{jumps, leaves_handler, length, List, list_any, locks, map, MAX_FORK_HANDLERS, may_register, nat_eq}
+use Rattle.pct_names.proofs.Names.{nat_lt, new_keys, new_or_go, next_of, NextStatement, None, NoStatement, not, offers, open_of, Operand}
+use Rattle.pct_names.proofs.Names.{Option, Optional, or_right, pick_or_go, point_kind, PointKind, pops, pos_of_ne-zero, posts, Process}
+use Rattle.pct_names.proofs.Names.{pushes, refl, registers_fork, registers_if, requests, Required, returns_by, Run, run, running_choices}
+use Rattle.pct_names.proofs.Names.{running_rows, runs, same_choice, Script, sets, sets_mode, sets_specific, sets_state, SharedState}
+use Rattle.pct_names.proofs.Names.{signals_by, Some, StatementIn, Status, Stmt, stop_at, stops_or, subst, suc, sym, tests_cancel, Thread}
+use Rattle.pct_names.proofs.Names.{Transition, transition_at, true, unlocks, value_of, Waiter, waiters_among, waiters_to_signal, What, Why}
+use Rattle.pct_names.proofs.Names.{World, ◌||◌, ℕ, ◌∙◌, ◌∷◌, ◌≡◌}
 use Rattle.std.proofs.Common.{eqb-true, eq-eqb}
 use Rattle.std.proofs.lemmas.Bool.{true≢false}
 use Rattle.pct_model.specs.declared.event.Caller.TheVariants as caller
@@ -123,8 +123,8 @@ pop_said next v ((f, a) ∷ handlers) = pop_by next v f a handlers (nat_eq v 0) 
 
 -- ---- a statement
 
-module _ (slots passes : ℕ) (body : List Stmt) (shared : SharedState) (threads : List Thread) (t : Thread) (others : Others)
-    (some : 0 < slots) (ids : others.new_ids ≡ free_ids slots threads) (waiting : (c : ℕ) → others.waiters c ≡ waiters_among c (by_slot slots threads)) where
+module _ (slots passes : ℕ) (body : List Stmt) (shared : SharedState) (threads : List Thread) (t : Thread) (environment : Environment)
+    (some : 0 < slots) (ids : environment.new_ids ≡ free_ids slots threads) (waiting : (c : ℕ) → environment.waiters c ≡ waiters_among c (by_slot slots threads)) where
   -- the events are those of the statement
   abbrev IsSaid : Frame → Stmt → List What → Type 0
   IsSaid frame s events = asked slots body shared threads t frame s events ≡ true
@@ -134,14 +134,14 @@ module _ (slots passes : ℕ) (body : List Stmt) (shared : SharedState) (threads
 
   -- the rows of the choices that a statement has of its own
   abbrev own_rows : Stmt → List ChoiceRow
-  own_rows s = (is_blocked s shared, []) ∷ (is_create s, new_or_go others.new_ids) ∷ (is_key_create s, new_or_go (new_keys shared.keys)) ∷ (is_signal s, pick_or_go (waiters_to_signal others s)) ∷ []
+  own_rows s = (is_blocked s shared, []) ∷ (is_create s, new_or_go environment.new_ids) ∷ (is_key_create s, new_or_go (new_keys shared.keys)) ∷ (is_signal s, pick_or_go (waiters_to_signal environment s)) ∷ []
 
   -- a thread at a statement that is neither a stop nor a call of a cancellation point has no other choices
-  own_choices : (choice : Alt) (frame : Frame) (s : Stmt) → called_kind s ≡ None → is_allowed_asynchronously s ≡ false → stop_at body shared t others frame s ≡ None → offers (choices_at body shared t others (StatementIn frame s) status.Running) choice ≡ true
+  own_choices : (choice : Alt) (frame : Frame) (s : Stmt) → called_kind s ≡ None → is_allowed_asynchronously s ≡ false → stop_at body shared t environment frame s ≡ None → offers (choices_at body shared t environment (StatementIn frame s) status.Running) choice ≡ true
       → offers (first_row (own_rows s) (alt.Go ∷ [])) choice ≡ true
   unfolding choices_at running_choices running_rows
   own_choices choice frame s no_point unsafe none =
-      let allowed = no_stops body shared t others frame s none in
+      let allowed = no_stops body shared t environment frame s none in
       by (is_forbidden_in_child body shared frame s) (is_asynchronous t.state t.mode) (is_deliverable t.state t.pending) (is_required (called_kind s)) (is_optional (called_kind s)) (is_allowed_asynchronously s)
       allowed.0 allowed.1.0 (ap is_required no_point) (ap is_optional no_point) unsafe
     where
@@ -226,8 +226,8 @@ module _ (slots passes : ℕ) (body : List Stmt) (shared : SharedState) (threads
   point_said frame index None is = ap is_none is
 
   -- a statement that does not stop
-  runs_said : (choice : Alt) (frame : Frame) (s : Stmt) → offers (choices_at body shared t others (StatementIn frame s) status.Running) choice ≡ true → stop_at body shared t others frame s ≡ None
-      → IsSaid frame s (runs passes body shared t others choice frame s).events
+  runs_said : (choice : Alt) (frame : Frame) (s : Stmt) → offers (choices_at body shared t environment (StatementIn frame s) status.Running) choice ≡ true → stop_at body shared t environment frame s ≡ None
+      → IsSaid frame s (runs passes body shared t environment choice frame s).events
   unfolding runs emits sets adds jumps calls gets_self ends_by_exit pushes requests detaches begins_join sets_state sets_mode tests_cancel deletes_key sets_specific gets_specific locks unlocks begins_wait broadcasts begins_sem_wait posts registers_fork begins_fork exits ends_now called_kind
   runs_said choice frame (statement.Emit v) offered none = same (value frame v)
   runs_said choice frame statement.End offered none = end_said body t.kept frame (open_of body frame.pc)
@@ -249,10 +249,10 @@ module _ (slots passes : ℕ) (body : List Stmt) (shared : SharedState) (threads
   runs_said choice frame (statement.Signal c) offered none =
       signal_said choice frame c (subst (λ (waiters : List Waiter). offers (pick_or_go waiters) choice ≡ true) (waiting c) (own_choices choice frame (statement.Signal c) refl refl none offered))
   runs_said choice frame (statement.Broadcast c) offered none =
-      and_from (nat_eq c c) (nat_eq (length (others.waiters c)) (count_by (waits_on c) threads)) (same c) (eq-eqb (length (others.waiters c)) (count_by (waits_on c) threads) (ap (λ (waiters : List Waiter). length waiters) (waiting c) ∙ count_waiting slots c threads some))
+      and_from (nat_eq c c) (nat_eq (length (environment.waiters c)) (count_by (waits_on c) threads)) (same c) (eq-eqb (length (environment.waiters c)) (count_by (waits_on c) threads) (ap (λ (waiters : List Waiter). length waiters) (waiting c) ∙ count_waiting slots c threads some))
   runs_said choice frame (statement.SemPost sem) offered none = same sem
   runs_said choice frame (statement.AtFork result prepare parent child) offered none = register_fork_said frame result prepare parent child (nat_lt (length shared.fork_handlers) MAX_FORK_HANDLERS) refl
-  runs_said choice frame (statement.WaitPid result pid d) offered none = waitpid_said frame result d pid (others.family.child (value frame pid))
+  runs_said choice frame (statement.WaitPid result pid d) offered none = waitpid_said frame result d pid (environment.family.child (value frame pid))
   runs_said choice frame (statement.AtExit result f) offered none = register_said frame result f (may_register shared) refl
   runs_said choice frame (statement.ProcExit v) offered none = same (value frame v)
   runs_said choice frame (statement.ProcExitNow v) offered none = same _
@@ -265,22 +265,22 @@ module _ (slots passes : ℕ) (body : List Stmt) (shared : SharedState) (threads
   stop_said frame s None other said = or_right (acts_or_stops other.events) (asked slots body shared threads t frame s other.events) (said refl)
 
   -- a running thread
-  at_statement : (choice : Alt) (next : NextStatement) → offers (choices_at body shared t others next status.Running) choice ≡ true
-      → (acts_or_stops (acts_or choice status.Running (transition_at passes body shared t others choice next status.Running)).events || asked_at slots body shared threads t next (acts_or choice status.Running (transition_at passes body shared t others choice next status.Running)).events) ≡ true
+  at_statement : (choice : Alt) (next : NextStatement) → offers (choices_at body shared t environment next status.Running) choice ≡ true
+      → (acts_or_stops (acts_or choice status.Running (transition_at passes body shared t environment choice next status.Running)).events || asked_at slots body shared threads t next (acts_or choice status.Running (transition_at passes body shared t environment choice next status.Running)).events) ≡ true
   unfolding transition_at acts_on_request choices_at
   at_statement choice NoStatement offered = absurd (false≢true offered)
   at_statement (alt.Act n) (StatementIn frame s) offered = refl
-  at_statement choice (StatementIn frame s) offered = stop_said frame s (stop_at body shared t others frame s) (runs passes body shared t others choice frame s) (runs_said choice frame s offered)
+  at_statement choice (StatementIn frame s) offered = stop_said frame s (stop_at body shared t environment frame s) (runs passes body shared t environment choice frame s) (runs_said choice frame s offered)
 
 -- ---- steps
 
 -- what a thread sees of the others, as the law has it
-seen_ids : (slots : ℕ) (w : World) (p : Process) (id : ℕ) → (others_of slots w p id).new_ids ≡ free_ids slots p.threads
-unfolding others_of
+seen_ids : (slots : ℕ) (w : World) (p : Process) (id : ℕ) → (environment_of slots w p id).new_ids ≡ free_ids slots p.threads
+unfolding environment_of
 seen_ids slots w p id = refl
 
-seen_waiters : (slots : ℕ) (w : World) (p : Process) (id c : ℕ) → (others_of slots w p id).waiters c ≡ waiters_among c (by_slot slots p.threads)
-unfolding others_of
+seen_waiters : (slots : ℕ) (w : World) (p : Process) (id c : ℕ) → (environment_of slots w p id).waiters c ≡ waiters_among c (by_slot slots p.threads)
+unfolding environment_of
 seen_waiters slots w p id c = refl
 
 module _ (script : Script) (config : Config) where
@@ -288,11 +288,11 @@ module _ (script : Script) (config : Config) where
   says_statement_of_step : (before : List Entry) (r : Run) → run script config before ≡ Some r → (e : Entry) (p : Process) (t : Thread) → IsTaken script config r.world e p t → says_statement config.slots script (step_of script config r p e t) ≡ true
   says_statement_of_step before r is e p t taken = unless (is_running t.status) _ _ (λ running.
       let body : List Stmt = body_at script t.frames in
-      let others : Others = others_of config.slots r.world p t.id in
+      let environment : Environment = environment_of config.slots r.world p t.id in
       let next : NextStatement = next_of script t.frames in
-      subst (λ (s : Status). offers (choices_at body p.shared t others next s) e.alt ≡ true
-      → (acts_or_stops (acts_or e.alt s (transition_at config.passes body p.shared t others e.alt next s)).events || asked_at config.slots body p.shared p.threads t next (acts_or e.alt s (transition_at config.passes body p.shared t others e.alt next s)).events) ≡ true) (sym (its_status t.status running))
-      (at_statement config.slots config.passes body p.shared p.threads t others (have_pids script config before r is).some (seen_ids config.slots r.world p t.id) (seen_waiters config.slots r.world p t.id) e.alt next) taken.offered)
+      subst (λ (s : Status). offers (choices_at body p.shared t environment next s) e.alt ≡ true
+      → (acts_or_stops (acts_or e.alt s (transition_at config.passes body p.shared t environment e.alt next s)).events || asked_at config.slots body p.shared p.threads t next (acts_or e.alt s (transition_at config.passes body p.shared t environment e.alt next s)).events) ≡ true) (sym (its_status t.status running))
+      (at_statement config.slots config.passes body p.shared p.threads t environment (have_pids script config before r is).some (seen_ids config.slots r.world p t.id) (seen_waiters config.slots r.world p t.id) e.alt next) taken.offered)
 
   -- each running thread of a run makes the events of its next statement
   pub says_statements_of_run : EveryStep script config (λ s. says_statement config.slots script s ≡ true)

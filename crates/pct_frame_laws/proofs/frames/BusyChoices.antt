@@ -2,17 +2,17 @@
 use Rattle.pct_names.proofs.Names.{◌++◌, [], acts_on_request, acts_or, adds, Alt, begins_fork, begins_join, begins_sem_wait, begins_wait}
 use Rattle.pct_names.proofs.Names.{begins_waitpid, Bool, broadcasts, calls, calls_handler, calls_point, choices_at, cond, creates}
 use Rattle.pct_names.proofs.Names.{creates_by, creates_key, creates_key_by, deletes_key, Dest, detaches, emits, ends_block, ends_by_exit}
-use Rattle.pct_names.proofs.Names.{ends_join, ends_now, exit_value_with, exits, fails_to_create, fails_to_create_key, false, false≢true}
-use Rattle.pct_names.proofs.Names.{finds_no_child, ForkAt, forks_by, Frame, FrameKind, gets_self, gets_specific, go_if}
-use Rattle.pct_names.proofs.Names.{goes_on_after_handlers, goes_on_forking, HandlerCall, hands_on, has_no_frame, is_deliverable}
-use Rattle.pct_names.proofs.Names.{is_fork_kind, is_free_mutex, is_none, is_some, joins_at, jumps, leaves_handler, leaves_wait, length}
-use Rattle.pct_names.proofs.Names.{List, locks, MAX_FORK_HANDLERS, may_register, nat_eq, nat_lt, NextStatement, None, NoStatement, not}
-use Rattle.pct_names.proofs.Names.{offers, open_of, Operand, Option, Optional, Others, Parent, passes_point, Phase, point_kind, PointKind}
-use Rattle.pct_names.proofs.Names.{pops, posts, Prepare, pushes, Reacquire, reacquires, reaps, reaps_if, refl, registers_fork}
-use Rattle.pct_names.proofs.Names.{registers_if, requests, Required, returns_by, returns_in_child, returns_in_parent, runs, sets}
-use Rattle.pct_names.proofs.Names.{sets_mode, sets_specific, sets_state, SharedState, signals_by, Some, StatementIn, Status, Stmt, stop_at}
-use Rattle.pct_names.proofs.Names.{stops_or, subst, suc, sym, takes, tests_cancel, Thread, Transition, transition_at, true, unlocks}
-use Rattle.pct_names.proofs.Names.{waits_at, Why, ℕ, ◌∙◌, ◌∷◌, ◌≡◌}
+use Rattle.pct_names.proofs.Names.{ends_join, ends_now, ends_sem_wait, Environment, exit_value_with, exits, fails_to_create}
+use Rattle.pct_names.proofs.Names.{fails_to_create_key, false, false≢true, finds_no_child, ForkAt, forks_by, Frame, FrameKind, gets_self}
+use Rattle.pct_names.proofs.Names.{gets_specific, go_if, goes_on_after_handlers, goes_on_forking, HandlerCall, hands_on, has_no_frame}
+use Rattle.pct_names.proofs.Names.{is_deliverable, is_fork_kind, is_free_mutex, is_none, is_some, joins_at, jumps, leaves_handler}
+use Rattle.pct_names.proofs.Names.{leaves_wait, length, List, locks, MAX_FORK_HANDLERS, may_register, nat_eq, nat_lt, NextStatement, None}
+use Rattle.pct_names.proofs.Names.{NoStatement, not, offers, open_of, Operand, Option, Optional, Parent, passes_point, Phase, point_kind}
+use Rattle.pct_names.proofs.Names.{PointKind, pops, posts, Prepare, pushes, Reacquire, reacquires, reaps, reaps_if, refl, registers_fork}
+use Rattle.pct_names.proofs.Names.{registers_if, requests, Required, returns_by, returns_in_child, returns_in_parent, runs, sets, sets_mode}
+use Rattle.pct_names.proofs.Names.{sets_specific, sets_state, SharedState, signals_by, Some, StatementIn, Status, Stmt, stop_at, stops_or}
+use Rattle.pct_names.proofs.Names.{subst, suc, sym, tests_cancel, Thread, Transition, transition_at, true, unlocks, waits_at, Why, ℕ, ◌∙◌}
+use Rattle.pct_names.proofs.Names.{◌∷◌, ◌≡◌}
 use Rattle.std.specs.Option.{option_map_or}
 use Rattle.std.proofs.lemmas.Bool.{true≢false}
 use Rattle.pct_model.specs.declared.process.Child.{Child}
@@ -53,7 +53,7 @@ either_does : (b : Bool) (first second : Transition) → DoesSome first → Does
 either_does true first second one other = one
 either_does false first second one other = other
 
-module _ (passes : ℕ) (body : List Stmt) (shared : SharedState) (t : Thread) (others : Others) where
+module _ (passes : ℕ) (body : List Stmt) (shared : SharedState) (t : Thread) (environment : Environment) where
   -- ---- a running thread
 
   leave_busy : (kept : Option ForkAt) → is_some kept ≡ true → DoesSome (leaves_handler kept)
@@ -83,7 +83,7 @@ module _ (passes : ℕ) (body : List Stmt) (shared : SharedState) (t : Thread) (
   point_busy next index None is = absurd (false≢true is)
 
   create_busy : {frame : Frame} {result id : Dest} {f : ℕ} {v : Operand} {detached : Bool} {choice : Alt} (next a : ℕ)
-      → Offered shared t others (StatementIn frame (statement.Create result id f v detached)) status.Running choice → is_acting choice ≡ false
+      → Offered shared t environment (StatementIn frame (statement.Create result id f v detached)) status.Running choice → is_acting choice ≡ false
       → DoesSome (creates_by choice next result id f a detached)
   unfolding creates fails_to_create
   create_busy next a (may_go _ _ goes) other = refl
@@ -91,7 +91,7 @@ module _ (passes : ℕ) (body : List Stmt) (shared : SharedState) (t : Thread) (
   create_busy next a (may_create _ _ _ _ _ _ n among) other = refl
 
   create_key_busy : {frame : Frame} {result key : Dest} {destructor : Option ℕ} {choice : Alt} (next : ℕ)
-      → Offered shared t others (StatementIn frame (statement.KeyCreate result key destructor)) status.Running choice → is_acting choice ≡ false
+      → Offered shared t environment (StatementIn frame (statement.KeyCreate result key destructor)) status.Running choice → is_acting choice ≡ false
       → DoesSome (creates_key_by choice next result key destructor)
   unfolding creates_key fails_to_create_key
   create_key_busy next (may_go _ _ goes) other = refl
@@ -99,7 +99,7 @@ module _ (passes : ℕ) (body : List Stmt) (shared : SharedState) (t : Thread) (
   create_key_busy next (may_make_key _ _ _ _ n among) other = refl
 
   signal_busy : {frame : Frame} {c : ℕ} {choice : Alt} (next : ℕ)
-      → Offered shared t others (StatementIn frame (statement.Signal c)) status.Running choice → is_acting choice ≡ false → DoesSome (signals_by choice next c)
+      → Offered shared t environment (StatementIn frame (statement.Signal c)) status.Running choice → is_acting choice ≡ false → DoesSome (signals_by choice next c)
   unfolding signals_by
   signal_busy next (may_go _ _ goes) other = refl
   signal_busy next (may_act _ _ alive delivered where_it_may) other = absurd (true≢false other)
@@ -115,8 +115,8 @@ module _ (passes : ℕ) (body : List Stmt) (shared : SharedState) (t : Thread) (
   register_busy true next result f = refl
   register_busy false next result f = refl
 
-  runs_busy : (choice : Alt) (frame : Frame) (s : Stmt) → Offered shared t others (StatementIn frame s) status.Running choice → is_acting choice ≡ false
-      → IsBusy t.handlers t.kept status.Running (StatementIn frame s) → DoesSome (runs passes body shared t others choice frame s)
+  runs_busy : (choice : Alt) (frame : Frame) (s : Stmt) → Offered shared t environment (StatementIn frame s) status.Running choice → is_acting choice ≡ false
+      → IsBusy t.handlers t.kept status.Running (StatementIn frame s) → DoesSome (runs passes body shared t environment choice frame s)
   unfolding runs emits sets adds jumps calls gets_self ends_by_exit pushes requests detaches begins_join sets_state sets_mode tests_cancel deletes_key sets_specific gets_specific locks unlocks begins_wait broadcasts begins_sem_wait posts registers_fork begins_fork exits ends_now
   runs_busy choice frame statement.End may other busy = end_busy (open_of body frame.pc) t.kept frame busy
   runs_busy choice frame (statement.Return v) may other busy = return_busy t.kept frame.kind _ busy
@@ -182,9 +182,9 @@ module _ (passes : ℕ) (body : List Stmt) (shared : SharedState) (t : Thread) (
 
   -- what the thread does by a choice
   abbrev does : Alt → NextStatement → Status → Transition
-  does choice next s = acts_or choice s (transition_at passes body shared t others choice next s)
+  does choice next s = acts_or choice s (transition_at passes body shared t environment choice next s)
 
-  act_busy : (n : ℕ) (next : NextStatement) (s : Status) → offers (choices_at body shared t others next s) (alt.Act n) ≡ true → has_no_frame s ≡ false → DoesSome (acts_on_request n s)
+  act_busy : (n : ℕ) (next : NextStatement) (s : Status) → offers (choices_at body shared t environment next s) (alt.Act n) ≡ true → has_no_frame s ≡ false → DoesSome (acts_on_request n s)
   unfolding acts_on_request choices_at leaves_wait hands_on
   act_busy n next status.Running offered inside = refl
   act_busy n next (status.AtPoint index) offered inside = refl
@@ -198,32 +198,32 @@ module _ (passes : ℕ) (body : List Stmt) (shared : SharedState) (t : Thread) (
   act_busy n next (status.Forking at) offered inside = absurd (false≢true offered)
   act_busy n next _ offered inside = absurd (true≢false inside)
 
-  go_busy : (choice : Alt) (next : NextStatement) (s : Status) → Offered shared t others next s choice → is_acting choice ≡ false → IsBusy t.handlers t.kept s next → has_no_frame s ≡ false
-      → (next ≡ NoStatement → s ≡ status.Running → ⊥) → DoesSome (transition_at passes body shared t others choice next s)
-  unfolding transition_at passes_point takes reacquires
-  go_busy choice (StatementIn frame s) status.Running may other at inside some = stop_busy (stop_at body shared t others frame s) _ (runs_busy choice frame s may other at)
+  go_busy : (choice : Alt) (next : NextStatement) (s : Status) → Offered shared t environment next s choice → is_acting choice ≡ false → IsBusy t.handlers t.kept s next → has_no_frame s ≡ false
+      → (next ≡ NoStatement → s ≡ status.Running → ⊥) → DoesSome (transition_at passes body shared t environment choice next s)
+  unfolding transition_at passes_point ends_sem_wait reacquires
+  go_busy choice (StatementIn frame s) status.Running may other at inside some = stop_busy (stop_at body shared t environment frame s) _ (runs_busy choice frame s may other at)
   go_busy choice NoStatement status.Running may other at inside some = absurd (some refl refl)
   go_busy choice (StatementIn frame (statement.PointCall i)) (status.AtPoint index) may other at inside some = refl
   go_busy choice _ (status.AtPoint index) may other at inside some = absurd (false≢true at)
-  go_busy choice next (status.Joining id) may other at inside some = join_busy (exit_value_with id others) id next (may_go_on may other) at
+  go_busy choice next (status.Joining id) may other at inside some = join_busy (exit_value_with id environment) id next (may_go_on may other) at
   go_busy choice (StatementIn frame (statement.SemWait i)) (status.InSem sem) may other at inside some = refl
   go_busy choice _ (status.InSem sem) may other at inside some = absurd (false≢true at)
-  go_busy choice (StatementIn frame (statement.WaitPid result operand d)) (status.InWaitPid pid) may other at inside some = reap_busy frame result d operand pid (others.family.child pid) (may_go_on may other)
+  go_busy choice (StatementIn frame (statement.WaitPid result operand d)) (status.InWaitPid pid) may other at inside some = reap_busy frame result d operand pid (environment.family.child pid) (may_go_on may other)
   go_busy choice _ (status.InWaitPid pid) may other at inside some = absurd (false≢true at)
   go_busy choice next (status.Waiting c m) may other at inside some = absurd (false≢true (may_go_on may other))
   go_busy choice next (status.Reacquire c m cause.Canceled) may other at inside some = refl
   go_busy choice (StatementIn frame (statement.CondWait cond mutex)) (status.Reacquire c m _) may other at inside some = refl
   go_busy choice _ (status.Reacquire c m why) may other at inside some = absurd (false≢true at)
-  go_busy choice next (status.Forking fork) may other at inside some = fork_busy _ fork others.family.new_pid next at
+  go_busy choice next (status.Forking fork) may other at inside some = fork_busy _ fork environment.family.new_pid next at
   go_busy choice next _ may other at inside some = absurd (true≢false inside)
 
   -- a running thread has a next statement
-  has_next : (choice : Alt) (next : NextStatement) (s : Status) → offers (choices_at body shared t others next s) choice ≡ true → next ≡ NoStatement → s ≡ status.Running → ⊥
+  has_next : (choice : Alt) (next : NextStatement) (s : Status) → offers (choices_at body shared t environment next s) choice ≡ true → next ≡ NoStatement → s ≡ status.Running → ⊥
   unfolding choices_at
   has_next choice next s offered none running =
-      false≢true (subst (λ (n : NextStatement). offers (choices_at body shared t others n status.Running) choice ≡ true) none (subst (λ (x : Status). offers (choices_at body shared t others next x) choice ≡ true) running offered))
+      false≢true (subst (λ (n : NextStatement). offers (choices_at body shared t environment n status.Running) choice ≡ true) none (subst (λ (x : Status). offers (choices_at body shared t environment next x) choice ≡ true) running offered))
 
-  pub always_busy : (choice : Alt) (next : NextStatement) (s : Status) → offers (choices_at body shared t others next s) choice ≡ true → IsBusy t.handlers t.kept s next → has_no_frame s ≡ false
+  pub always_busy : (choice : Alt) (next : NextStatement) (s : Status) → offers (choices_at body shared t environment next s) choice ≡ true → IsBusy t.handlers t.kept s next → has_no_frame s ≡ false
       → DoesSome (does choice next s)
   always_busy (alt.Act n) next s offered at inside = act_busy n next s offered inside
-  always_busy choice next s offered at inside = go_busy choice next s (offered_of body shared t others choice next s offered) refl at inside (has_next choice next s offered)
+  always_busy choice next s offered at inside = go_busy choice next s (offered_of body shared t environment choice next s offered) refl at inside (has_next choice next s offered)

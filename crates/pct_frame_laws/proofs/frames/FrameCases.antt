@@ -1,6 +1,6 @@
 -- What each case of a transition does to the frames of its thread is what the law has.
-use Rattle.pct_names.proofs.Names.{◌&&◌, ◌++◌, [], acts, ap, Bool, cond, false, ForkAt, Frame, goes_on, handler_event, HandlerCall}
-use Rattle.pct_names.proofs.Names.{has_no_frame, is_none, List, list_any, NextStatement, NoStatement, Option, Others, refl, Script}
+use Rattle.pct_names.proofs.Names.{◌&&◌, ◌++◌, [], acts, ap, Bool, cond, Environment, false, ForkAt, Frame, goes_on, handler_event}
+use Rattle.pct_names.proofs.Names.{HandlerCall, has_no_frame, is_none, List, list_any, NextStatement, NoStatement, Option, refl, Script}
 use Rattle.pct_names.proofs.Names.{SharedState, Some, StatementIn, Status, Stmt, suc, sym, Thread, Transition, true, What, while_called}
 use Rattle.pct_names.proofs.Names.{◌||◌, ℕ, ◌∷◌, ◌≡◌}
 use Rattle.std.proofs.lemmas.Bool.{false≢true, true≢false}
@@ -64,14 +64,14 @@ module _ (body : List Stmt) (shared : SharedState) where
   -- ---- cases
 
   -- a thread without a frame
-  case_outside : (passes : ℕ) (t : Thread) (others : Others) {s : Status} {o : Transition} → TransitionCase passes body shared t others true NoStatement s o → LeavesIts [] NoStatement s o
-  case_outside passes t others (fork_handler_called next at call is) = handler_called [] NoStatement at call
-  case_outside passes t others _ = refl
+  case_outside : (passes : ℕ) (t : Thread) (environment : Environment) {s : Status} {o : Transition} → TransitionCase passes body shared t environment true NoStatement s o → LeavesIts [] NoStatement s o
+  case_outside passes t environment (fork_handler_called next at call is) = handler_called [] NoStatement at call
+  case_outside passes t environment _ = refl
 
-module _ (passes : ℕ) (shared : SharedState) (t : Thread) (others : Others) where
+module _ (passes : ℕ) (shared : SharedState) (t : Thread) (environment : Environment) where
   -- a thread in a function, that has something to do
   case_inside : (frame : Frame) (below : List Frame) {script : Script} {body : List Stmt} {next : NextStatement} {s : Status} {o : Transition} → IsPlaced script (frame ∷ below) body next
-      → has_no_frame s ≡ false → is_idle o ≡ false → TransitionCase passes body shared t others true next s o → LeavesIts body shared (frame ∷ below) next s o
+      → has_no_frame s ≡ false → is_idle o ≡ false → TransitionCase passes body shared t environment true next s o → LeavesIts body shared (frame ∷ below) next s o
   case_inside frame below placed inside busy (rests next s alive) = absurd (true≢false busy)
   case_inside frame below placed inside busy (handler_run next f a handlers is) = absurd (true≢false inside)
   case_inside frame below placed inside busy (destructor_called next k f key none is destructor_is among) = absurd (true≢false inside)
@@ -93,15 +93,15 @@ module _ (passes : ℕ) (shared : SharedState) (t : Thread) (others : Others) wh
 
   -- any thread
   pub case_leaves : (frames : List Frame) {script : Script} {body : List Stmt} {next : NextStatement} {s : Status} {o : Transition} → IsPlaced script frames body next
-      → (has_no_frame s ≡ true → frames ≡ []) → (has_no_frame s ≡ false → is_idle o ≡ false) → TransitionCase passes body shared t others true next s o → LeavesIts body shared frames next s o
-  case_leaves [] (nowhere _ body) none busy case = case_outside body shared passes t others case
+      → (has_no_frame s ≡ true → frames ≡ []) → (has_no_frame s ≡ false → is_idle o ≡ false) → TransitionCase passes body shared t environment true next s o → LeavesIts body shared frames next s o
+  case_leaves [] (nowhere _ body) none busy case = case_outside body shared passes t environment case
   case_leaves (frame ∷ below) {s = s} placed none busy case = let inside : has_no_frame s ≡ false = by_status (has_no_frame s) refl in case_inside frame below placed inside (busy inside) case
     where
       by_status : (outside : Bool) → has_no_frame s ≡ outside → outside ≡ false
       by_status true is = absurd (false≢true (ap (λ (frames : List Frame). is_empty frames) (none is)))
       by_status false is = refl
 
-module _ (passes : ℕ) (body : List Stmt) (shared : SharedState) (t : Thread) (others : Others) where
+module _ (passes : ℕ) (body : List Stmt) (shared : SharedState) (t : Thread) (environment : Environment) where
   leads_call : {frame : Frame} {s : Stmt} {pc : ℕ} → Leads body shared.globals frame s pc → MakesIts shared (StatementIn frame s) (goes_on pc [])
   leads_call (past_if v) = refl
   leads_call _ = refl
@@ -111,7 +111,7 @@ module _ (passes : ℕ) (body : List Stmt) (shared : SharedState) (t : Thread) (
   returns_call (by_end none) status = refl
 
   -- a transition makes the call that the law has
-  pub case_calls : {next : NextStatement} {s : Status} {o : Transition} → TransitionCase passes body shared t others true next s o → (is_idle o ≡ true → next ≡ NoStatement) → MakesIts shared next o
+  pub case_calls : {next : NextStatement} {s : Status} {o : Transition} → TransitionCase passes body shared t environment true next s o → (is_idle o ≡ true → next ≡ NoStatement) → MakesIts shared next o
   case_calls (rests next s alive) idle = ap (calls_of shared.globals []) (idle refl)
   case_calls (jumped frame s pc leads) idle = leads_call leads
   case_calls (call_left frame s v back is) idle = returns_call back status.Running

@@ -1,9 +1,9 @@
 -- From the call of a handler as its thread ends to the next such call, the oldest frame of the thread, if it has one, is that of the handler.
-use Rattle.pct_names.proofs.Names.{◌++◌, [], ap, body_at, Bool, cond, Config, Entry, Event, false, false≢true, Frame, has_no_frame, inl}
-use Rattle.pct_names.proofs.Names.{inr, List, made_thread, next_of, NextStatement, None, none-some, Option, option_and_then, Others}
-use Rattle.pct_names.proofs.Names.{others_of, OwnAction, Process, Reason, refl, reverse, run, Run, Script, SharedState, Some, Status, Stmt}
-use Rattle.pct_names.proofs.Names.{subst, suc, sym, Thread, thread_with, Transition, transition_by, true, What, without_first, ℕ, ◌∙◌, ◌∷◌}
-use Rattle.pct_names.proofs.Names.{◌≡◌}
+use Rattle.pct_names.proofs.Names.{◌++◌, [], ap, body_at, Bool, cond, Config, Entry, Environment, environment_of, Event, false, false≢true}
+use Rattle.pct_names.proofs.Names.{Frame, has_no_frame, inl, inr, List, made_thread, next_of, NextStatement, None, none-some, Option}
+use Rattle.pct_names.proofs.Names.{option_and_then, OwnAction, Process, Reason, refl, reverse, Run, run, Script, SharedState, Some, Status}
+use Rattle.pct_names.proofs.Names.{Stmt, subst, suc, sym, Thread, thread_with, Transition, transition_by, true, What, without_first, ℕ, ◌∙◌}
+use Rattle.pct_names.proofs.Names.{◌∷◌, ◌≡◌}
 use Rattle.pct_model.specs.declared.event.What.TheVariants as what
 use Rattle.pct_model.specs.declared.state.Status.TheVariants as status
 use Rattle.pct_model.specs.declared.transition.OwnAction.TheVariants as own_action
@@ -19,7 +19,7 @@ use Rattle.pct_thread_invariants.proofs.lift.ChangedThreads.{named_keeps}
 use Rattle.pct_thread_invariants.proofs.lift.EveryProcess.{moves_of_run, process_taken}
 use Rattle.pct_thread_invariants.proofs.lift.EveryThread.{every_thread, IsThreadRule, of_made_thread}
 use Rattle.pct_thread_invariants.proofs.lift.HandlerEvents.{of_each_phase}
-use Rattle.pct_thread_invariants.proofs.lift.MadeThreads.{IsLive}
+use Rattle.pct_thread_invariants.proofs.lift.MadeThreads.{HasValidId}
 use Rattle.pct_thread_invariants.proofs.lift.MovedThreads.{EveryStep, step_of, every_step}
 use Rattle.pct_thread_invariants.proofs.lift.ReportedBy.{after_all, is_thread_reading, of_thread, reported_by, ThreadReading}
 use Rattle.pct_thread_invariants.proofs.lift.TakenSteps.{IsTaken}
@@ -89,9 +89,9 @@ abbrev is_handler : Option What → Bool
 is_handler (Some (what.HandlerRun f a)) = true
 is_handler _ = false
 
-module _ (script : Script) (passes : ℕ) (shared : SharedState) (t : Thread) (others : Others) where
+module _ (script : Script) (passes : ℕ) (shared : SharedState) (t : Thread) (environment : Environment) where
   case_from : (frames : List Frame) {body : List Stmt} {next : NextStatement} {s : Status} {o : Transition} (k : Option What) → IsPlaced script frames body next → (is_empty frames ≡ true → has_no_frame s ≡ true)
-      → TransitionCase passes body shared t others true next s o → IsInIts (places frames) k → IsInIts (called (made o.own) ++ left o.own (places_at o.next frames)) (after_all newest (reverse o.events) k)
+      → TransitionCase passes body shared t environment true next s o → IsInIts (places frames) k → IsInIts (called (made o.own) ++ left o.own (places_at o.next frames)) (after_all newest (reverse o.events) k)
   case_from frames k placed some (handler_run next g b handlers is) was f a same = (ap function_of same, refl)
   case_from frames k placed some (destructor_called next key g it none is destructor_is among) was f a same = absurd (false≢true (ap is_handler same))
   case_from frames k placed some (exit_function_called next g functions is) was f a same = absurd (false≢true (ap is_handler same))
@@ -145,13 +145,13 @@ module _ (script : Script) (config : Config) where
     };
     kept = λ w p t k choice known offered holds.
         let o : Transition = transition_by script config w p t choice in
-        let others : Others = others_of config.slots w p t.id in
+        let environment : Environment = environment_of config.slots w p t.id in
         record {
           reported = after_all summary (reverse o.events) holds.reported;
           fits = rule.kept w p t holds.reported choice known offered holds.fits;
           is_in = λ f a same. subst (AreFrom f) (sym (moved_places o t))
-              (case_from script config.passes p.shared t others t.frames k (is_placed script t.frames) (none_by script t.status t.frames t.reason t.handlers holds.reported holds.fits.by_status)
-              (case_of config.passes (body_at script t.frames) p.shared t others true choice (next_of script t.frames) t.status (λ known. offered)) holds.is_in f a same);
+              (case_from script config.passes p.shared t environment t.frames k (is_placed script t.frames) (none_by script t.status t.frames t.reason t.handlers holds.reported holds.fits.by_status)
+              (case_of config.passes (body_at script t.frames) p.shared t environment true choice (next_of script t.frames) t.status (λ known. offered)) holds.is_in f a same);
         };
     replica = λ w p t k at known forks holds.
         record { reported = _; fits = rule.replica w p t holds.reported at known forks holds.fits; is_in = λ f a same. absurd (none-some (what.HandlerRun f a) same) };
@@ -159,7 +159,7 @@ module _ (script : Script) (config : Config) where
 
   stays_of_step : (before : List Entry) (r : Run) (is : run script config before ≡ Some r) (e : Entry) (p : Process) (t : Thread) (taken : IsTaken script config r.world e p t) → StaysInHandler (step_of script config r p e t)
   stays_of_step before r is e p t taken f a same =
-      let it : IsLive p e.tid t = mover script config r.world p e t (moves_of_run script config before r is e p t taken) in
+      let it : HasValidId p e.tid t = mover script config r.world p e t (moves_of_run script config before r is e p t taken) in
       let made : made_thread e.pid e.tid r.world ≡ Some t = ap (option_and_then (thread_with e.tid)) (process_taken script config before r is e p t taken) ∙ it.found in
       (of_made_thread newest Fits r (every_thread newest Fits script config (ProcessFits script config) handler_rule (processes_fit script config) before r is) e.pid e.tid t made it.here).is_in f a (sym (newest_reading e.tid e.pid r.events) ∙ same)
 

@@ -1,7 +1,7 @@
 -- The law of frames: what each step of a run does to the frames of its thread.
-use Rattle.pct_names.proofs.Names.{[], ap, ap₂, body_at, Bool, cond, Config, Entry, false, Frame, has_no_frame, List, made_thread, map}
-use Rattle.pct_names.proofs.Names.{moved, next_of, NextStatement, NoStatement, option_and_then, Others, others_of, Process, refl, run, Run}
-use Rattle.pct_names.proofs.Names.{Script, Some, sym, Thread, thread_moved, thread_with, Transition, transition_by, true, ◌∙◌, ◌≡◌}
+use Rattle.pct_names.proofs.Names.{[], ap, ap₂, body_at, Bool, cond, Config, Entry, Environment, environment_of, false, Frame, has_no_frame}
+use Rattle.pct_names.proofs.Names.{List, made_thread, map, moved, next_of, NextStatement, NoStatement, option_and_then, Process, refl, Run}
+use Rattle.pct_names.proofs.Names.{run, Script, Some, sym, Thread, thread_moved, thread_with, Transition, transition_by, true, ◌∙◌, ◌≡◌}
 use Rattle.std.proofs.lemmas.Bool.{true≢false}
 use Rattle.pct_laws.specs.FrameLaw.{Call, FrameLaw, KeepsOtherFrames, MovesFrames, places, its_calls, locals_at_call, StaysInHandler}
 use Rattle.pct_laws.specs.Kept.{ForkKept}
@@ -29,8 +29,8 @@ module _ (script : Script) (config : Config) where
     abbrev o : Transition
     o = transition_by script config r.world p t e.alt
 
-    abbrev others : Others
-    others = others_of config.slots r.world p t.id
+    abbrev environment : Environment
+    environment = environment_of config.slots r.world p t.id
 
     abbrev next : NextStatement
     next = next_of script t.frames
@@ -38,7 +38,7 @@ module _ (script : Script) (config : Config) where
     moves : Moves script config r.world p e t
     moves = moves_of_run script config before r is e p t taken
 
-    case : TransitionCase config.passes (body_at script t.frames) p.shared t others true next t.status o
+    case : TransitionCase config.passes (body_at script t.frames) p.shared t environment true next t.status o
     case = case_of_step script config r.world p e t moves
 
     made_is : made_thread e.pid e.tid r.world ≡ Some t
@@ -56,7 +56,7 @@ module _ (script : Script) (config : Config) where
     -- a thread in a function has something to do
     pub busy : has_no_frame t.status ≡ false → is_idle o ≡ false
     busy inside =
-        always_busy config.passes (body_at script t.frames) p.shared t others e.alt next t.status taken.offered
+        always_busy config.passes (body_at script t.frames) p.shared t environment e.alt next t.status taken.offered
         (any_busy script t.status t.frames t.reason t.handlers t.kept reported fits.by_status fork.keeps) inside
 
     outside : has_no_frame t.status ≡ true → t.frames ≡ []
@@ -70,13 +70,13 @@ module _ (script : Script) (config : Config) where
         by_status false some = absurd (true≢false (sym nothing ∙ busy some))
 
     calls_are : its_calls script (step_of script config r p e t) ≡ made o.own
-    calls_are = case_calls config.passes (body_at script t.frames) p.shared t others case idle
+    calls_are = case_calls config.passes (body_at script t.frames) p.shared t environment case idle
 
     frames_are : (thread_moved e.tid o t).frames ≡ (moved o t).frames
-    frames_are = frames_by e.tid o t ∙ ap (λ (live : Bool). (cond live (moved o t) t).frames) (mover script config r.world p e t moves).live
+    frames_are = frames_by e.tid o t ∙ ap (λ (live : Bool). (cond live (moved o t) t).frames) (mover script config r.world p e t moves).valid
 
     leaves : LeavesIts (body_at script t.frames) p.shared t.frames next t.status o
-    leaves = case_leaves config.passes p.shared t others t.frames (is_placed script t.frames) outside busy case
+    leaves = case_leaves config.passes p.shared t environment t.frames (is_placed script t.frames) outside busy case
 
     arguments_are : first_locals (its_calls script (step_of script config r p e t)) (thread_moved e.tid o t).frames ≡ map locals_at_call (its_calls script (step_of script config r p e t))
     arguments_are = ap₂ first_locals calls_are frames_are ∙ moved_locals o t ∙ ap (λ (calls : List Call). map locals_at_call calls) (sym calls_are)
@@ -92,6 +92,6 @@ module _ (script : Script) (config : Config) where
   pub frame_law : (entries : List Entry) → FrameLaw script config entries
   frame_law entries = record {
     frames = each_step script config (MovesFrames script) frames_of_run entries;
-    others = each_step script config KeepsOtherFrames (others_of_run script config) entries;
+    environment = each_step script config KeepsOtherFrames (others_of_run script config) entries;
     handlers = each_step script config StaysInHandler (stays_of_run script config) entries;
   }

@@ -1,7 +1,7 @@
 -- A step changes no frame of another thread than its own.
-use Rattle.pct_names.proofs.Names.{and_left, ap, Bool, cond, Config, Entry, false, holds_slot, is_live_thread, List, moved, nat_eq}
-use Rattle.pct_names.proofs.Names.{none-some, Option, Process, refl, run, Run, same_Some, Script, Some, sym, Thread, thread_moved}
-use Rattle.pct_names.proofs.Names.{thread_with, Transition, transition_by, ℕ, ◌∙◌, ◌≡◌, ◌≢◌}
+use Rattle.pct_names.proofs.Names.{and_left, ap, Bool, cond, Config, Entry, false, has_valid_id, holds_slot, List, moved, nat_eq, none-some}
+use Rattle.pct_names.proofs.Names.{Option, Process, refl, Run, run, same_Some, Script, Some, sym, Thread, thread_moved, thread_with}
+use Rattle.pct_names.proofs.Names.{Transition, transition_by, ℕ, ◌∙◌, ◌≡◌, ◌≢◌}
 use Rattle.std.proofs.Common.{eqb-true, ne_eqb}
 use Rattle.pct_laws.specs.FrameLaw.{KeepsOtherFrames}
 use Rattle.pct_thread_invariants.proofs.lift.ChangedThreads.{named_keeps}
@@ -12,8 +12,8 @@ use Rattle.pct_thread_invariants.proofs.lift.TakenSteps.{IsTaken}
 use Rattle.pct_thread_invariants.proofs.lift.ThreadsAfter.{Moves, After, was_made, is_new, is_absent, after}
 
 -- a thread keeps its frames, or, if it is the one that makes the step, has those after its own action
-pub frames_by : (tid : ℕ) (o : Transition) (t : Thread) → (thread_moved tid o t).frames ≡ (cond (is_live_thread tid t) (moved o t) t).frames
-frames_by tid o t = named_keeps (λ (u : Thread). u.frames) (λ u joined pending detached specific s same. refl) o.named (cond (is_live_thread tid t) (moved o t) t)
+pub frames_by : (tid : ℕ) (o : Transition) (t : Thread) → (thread_moved tid o t).frames ≡ (cond (has_valid_id tid t) (moved o t) t).frames
+frames_by tid o t = named_keeps (λ (u : Thread). u.frames) (λ u joined pending detached specific s same. refl) o.named (cond (has_valid_id tid t) (moved o t) t)
 
 module _ (script : Script) (config : Config) where
   module _ (before : List Entry) (r : Run) (is : run script config before ≡ Some r) (e : Entry) (p : Process) (t : Thread) (taken : IsTaken script config r.world e p t) where
@@ -23,7 +23,7 @@ module _ (script : Script) (config : Config) where
     moves : Moves script config r.world p e t
     moves = moves_of_run script config before r is e p t taken
 
-    is_another : (tid : ℕ) (u : Thread) → thread_with tid p ≡ Some u → tid ≢ e.tid → is_live_thread e.tid u ≡ false
+    is_another : (tid : ℕ) (u : Thread) → thread_with tid p ≡ Some u → tid ≢ e.tid → has_valid_id e.tid u ≡ false
     is_another tid u found differs =
         let named : u.id ≡ tid = eqb-true u.id tid (found_passes (λ (x : Thread). nat_eq x.id tid) p.threads u found) in
         and_left (nat_eq u.id e.tid) (holds_slot u) (ne_eqb u.id e.tid (λ same. differs (sym named ∙ same)))

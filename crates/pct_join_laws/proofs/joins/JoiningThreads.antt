@@ -2,8 +2,8 @@
 -- the only one that joins it.
 use Rattle.pct_names.proofs.Names.{◌&&◌, acts_on_request, and_parts, any_passes_from_place, ap, begins_join, Bool, changed, child_of, cond}
 use Rattle.pct_names.proofs.Names.{cond_some, Config, creates, detaches, ends_join, Entry, eqb-false, false, false_from_ne_true, false≢true}
-use Rattle.pct_names.proofs.Names.{find, first_process, holds_slot, in_child, inl, inr, is_ended_status, is_joined_by_one, is_joining}
-use Rattle.pct_names.proofs.Names.{is_live_thread, List, moved, nat_eq, not, Option, option_map, option_or, or_cases, or_left, or_parts}
+use Rattle.pct_names.proofs.Names.{find, first_process, has_valid_id, holds_slot, in_child, inl, inr, is_ended_status, is_joined_by_one}
+use Rattle.pct_names.proofs.Names.{is_joining, List, moved, nat_eq, not, Option, option_map, option_or, or_cases, or_left, or_parts}
 use Rattle.pct_names.proofs.Names.{position_or_len, Process, refl, requests, same_Some, Script, Some, Status, subst, sym, Thread}
 use Rattle.pct_names.proofs.Names.{thread_created, thread_moved, Transition, transition_by, true, World, ◌||◌, ℕ, ◌∙◌, ◌≡◌, ◌≢◌}
 use mathlib.Core.Bool.{or-false}
@@ -13,11 +13,12 @@ use Rattle.pct_model.specs.declared.state.Status.TheVariants as status
 use Rattle.pct_thread_invariants.proofs.lift.KeyedLists.{found_at, found_passes}
 use Rattle.pct_thread_invariants.proofs.lift.TakenSteps.{AfterEveryRun}
 use Rattle.pct_thread_invariants.proofs.lift.ChangedThreads.{settled, same_settled, named_keeps, other_threads}
-use Rattle.pct_thread_invariants.proofs.lift.MadeThreads.{own_thread_with, IsLive, live_thread}
+use Rattle.pct_thread_invariants.proofs.lift.MadeThreads.{own_thread_with, HasValidId, with_valid_id}
 use Rattle.pct_thread_invariants.proofs.lift.ThreadsAfter.{initial_thread, Moves, mover, is_mover, each_after, same_gone}
 use Rattle.pct_thread_invariants.proofs.lift.InheritedThreads.{each_heir}
 use Rattle.pct_thread_invariants.proofs.lift.EveryProcess.{OfEveryProcess, IsProcessRule, unread, every_process_keeps, moves_of_run}
-use Rattle.pct_thread_invariants.proofs.thread.JoinTransitions.{is_in_join, MayJoin, Kind, ends, detaches_one, kind_of, moves_alive, names_join, releases, names_detach, quiet}
+use Rattle.pct_thread_invariants.proofs.thread.JoinTransitions.{is_in_join, MayJoin, Kind, ends, detaches_one, kind_of, moves_alive}
+use Rattle.pct_thread_invariants.proofs.thread.JoinTransitions.{names_join, releases, names_detach, quiet}
 use Rattle.pct_thread_invariants.proofs.thread.NamedThreads.{unnamed, joined_after, detached_after}
 use Rattle.pct_join_laws.proofs.joins.ThreadsInJoin.{InJoin, stays, begun, in_join_after}
 
@@ -81,10 +82,10 @@ module _ (script : Script) (config : Config) (w : World) (p : Process) (e : Entr
   k : Kind t.id p.threads t.status o
   k = kind_of script config w p t e.alt
 
-  it : IsLive p e.tid t
+  it : HasValidId p e.tid t
   it = mover script config w p e t moves
 
-  status_after : (u : Thread) (live : Bool) → is_live_thread e.tid u ≡ live → settled (thread_moved e.tid o u).status ≡ settled (cond live (moved o u) u).status
+  status_after : (u : Thread) (live : Bool) → has_valid_id e.tid u ≡ live → settled (thread_moved e.tid o u).status ≡ settled (cond live (moved o u) u).status
   status_after u live is = named_keeps (λ (x : Thread). settled x.status) (λ t j p d k s same. same) o.named (unnamed e.tid o u) ∙ ap (λ (b : Bool). settled (cond b (moved o u) u).status) is
 
   -- ---- threads in pthread_join
@@ -100,21 +101,21 @@ module _ (script : Script) (config : Config) (w : World) (p : Process) (e : Entr
   mover_before id joins (begun n now_joins may is keeps) = now refl (subst (MayJoin t.id p.threads) (ap joined_id (sym now_joins ∙ joins)) may) (keeps id)
 
   -- another thread joins none that the transition joins or detaches
-  not_released : {x : Transition} (j : Kind t.id p.threads t.status x) (second id : ℕ) (u : Thread) → with second p.threads ≡ Some u → u.gone ≡ false → u.status ≡ status.Joining id → is_live_thread e.tid u ≡ false → releases id x.named ≡ true → ⊥
+  not_released : {x : Transition} (j : Kind t.id p.threads t.status x) (second id : ℕ) (u : Thread) → with second p.threads ≡ Some u → u.gone ≡ false → u.status ≡ status.Joining id → has_valid_id e.tid u ≡ false → releases id x.named ≡ true → ⊥
   unfolding creates begins_join ends_join detaches requests acts_on_request
   not_released (ends pc d n v target s is_target ended) second id u is_u present joins other names =
       let same : id ≡ n = eqb-true id n (sym (or-false (nat_eq id n)) ∙ names) in
       let its = rule.joins e.tid t it.found it.here n s in
       let second_is : second ≡ e.tid = its.alone second u is_u present (joins ∙ ap (λ (i : ℕ). status.Joining i) same) in
       let same_thread : u ≡ t = same_Some u t (sym is_u ∙ ap (λ (i : ℕ). with i p.threads) second_is ∙ it.found) in
-      false≢true (sym other ∙ ap (is_live_thread e.tid) same_thread ∙ it.live)
+      false≢true (sym other ∙ ap (has_valid_id e.tid) same_thread ∙ it.valid)
   not_released (detaches_one pc n target s is_target alone) second id u is_u present joins other names =
       let same : id ≡ n = eqb-true id n names in
       false≢true (sym alone ∙ ap (λ (i : ℕ). is_joined_by_one i p.threads) (sym same) ∙ is_seen p.threads second u id is_u present joins)
   not_released (quiet is nothing) second id u is_u present joins other names = false≢true (sym (is.named id) ∙ names)
   not_released j second id u is_u present joins other names = false≢true names
 
-  before_by : (second id : ℕ) (u : Thread) → with second p.threads ≡ Some u → u.gone ≡ false → (live : Bool) → is_live_thread e.tid u ≡ live → (cond live (moved o u) u).status ≡ status.Joining id → Before second id u
+  before_by : (second id : ℕ) (u : Thread) → with second p.threads ≡ Some u → u.gone ≡ false → (live : Bool) → has_valid_id e.tid u ≡ live → (cond live (moved o u) u).status ≡ status.Joining id → Before second id u
   before_by second id u is_u present true live joins =
       let it = is_mover script config w p e t moves second u is_u live in
       let joins_t : (moved o t).status ≡ status.Joining id = ap (λ (x : Thread). (moved o x).status) (sym it.0) ∙ joins in
@@ -123,14 +124,14 @@ module _ (script : Script) (config : Config) (w : World) (p : Process) (e : Entr
       still joins (false_from_ne_true (releases id o.named) (λ names. not_released k second id u is_u present joins other names))
 
   before : (second id : ℕ) (u : Thread) → with second p.threads ≡ Some u → u.gone ≡ false → (thread_moved e.tid o u).status ≡ status.Joining id → Before second id u
-  before second id u is_u present joins = before_by second id u is_u present (is_live_thread e.tid u) refl (settled_joins id (cond (is_live_thread e.tid u) (moved o u) u).status (sym (status_after u (is_live_thread e.tid u) refl) ∙ ap settled joins))
+  before second id u is_u present joins = before_by second id u is_u present (has_valid_id e.tid u) refl (settled_joins id (cond (has_valid_id e.tid u) (moved o u) u).status (sym (status_after u (has_valid_id e.tid u) refl) ∙ ap settled joins))
 
   -- ---- what they join
 
   -- the one that a thread begins to join
   begins_one : (id : ℕ) → MayJoin t.id p.threads id → JoinsOne p.threads e.tid id
   begins_one id may =
-      let live : IsLive p id may.target = live_thread id p may.target moves.ids.distinct may.is_target in
+      let live : HasValidId p id may.target = with_valid_id id p may.target moves.ids.distinct may.is_target in
       record {
         target = may.target;
         made = live.found;
@@ -185,7 +186,7 @@ module _ (script : Script) (config : Config) (w : World) (p : Process) (e : Entr
   -- ---- threads that were joined
 
   -- a thread that has ended does not move
-  ended_stays : (id : ℕ) (u : Thread) → with id p.threads ≡ Some u → is_ended_status u.status ≡ true → (live : Bool) → is_live_thread e.tid u ≡ live → is_ended_status (thread_moved e.tid o u).status ≡ true
+  ended_stays : (id : ℕ) (u : Thread) → with id p.threads ≡ Some u → is_ended_status u.status ≡ true → (live : Bool) → has_valid_id e.tid u ≡ live → is_ended_status (thread_moved e.tid o u).status ≡ true
   ended_stays id u is_u ended true live =
       absurd (false≢true (sym (moves_alive script config w p t e.alt moves.offered) ∙ ap (λ (x : Thread). is_ended_status x.status) (sym (is_mover script config w p e t moves id u is_u live).0) ∙ ended))
   ended_stays id u is_u ended false other = same_settled is_ended_status (λ c m why. refl) (thread_moved e.tid o u).status u.status (status_after u false other) ∙ ended
@@ -195,7 +196,7 @@ module _ (script : Script) (config : Config) (w : World) (p : Process) (e : Entr
   unfolding creates begins_join ends_join detaches requests acts_on_request
   target_ended (ends pc d n v target s is_target ended) id u is_u names =
       let u_id : u.id ≡ id = eqb-true u.id id (found_passes (λ (x : Thread). nat_eq x.id id) p.threads u is_u) in
-      let same : u ≡ target = same_Some u target (sym is_u ∙ ap (λ (i : ℕ). with i p.threads) (sym u_id ∙ eqb-true u.id n names) ∙ (live_thread n p target moves.ids.distinct is_target).found) in
+      let same : u ≡ target = same_Some u target (sym is_u ∙ ap (λ (i : ℕ). with i p.threads) (sym u_id ∙ eqb-true u.id n names) ∙ (with_valid_id n p target moves.ids.distinct is_target).found) in
       ap (λ (x : Thread). is_ended_status x.status) same ∙ ap is_ended_status ended
   target_ended {x} (quiet is nothing) id u is_u names = absurd (false≢true (sym (is.named u.id) ∙ or_left (names_join u.id x.named) (names_detach u.id x.named) names))
   target_ended j id u is_u names = absurd (false≢true names)
@@ -207,7 +208,7 @@ module _ (script : Script) (config : Config) (w : World) (p : Process) (e : Entr
         | inl names ↦ target_ended k id u is_u (and_parts (names_join u.id o.named) holds names).0
         | inr before ↦ rule.ended id u is_u before
       ] in
-      ended_stays id u is_u ended (is_live_thread e.tid u) refl
+      ended_stays id u is_u ended (has_valid_id e.tid u) refl
 
   joins_after : HaveJoins next
   joins_after = record {

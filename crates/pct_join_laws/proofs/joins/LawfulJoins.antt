@@ -1,9 +1,9 @@
 -- The law of joins holds of the events of every run.
-use Rattle.pct_names.proofs.Names.{◌&&◌, ◌++◌, and_from, ap, Bool, Config, Entry, event_of, false, false_from_ne_true, false≢true}
-use Rattle.pct_names.proofs.Names.{is_ended_status, join_point, List, list_all, made_process, made_thread, map, nat_eq, NextStatement, not}
-use Rattle.pct_names.proofs.Names.{Option, option_and_then, option_map_or, others_of, Process, refl, reverse, Run, run, same_Some, Script}
-use Rattle.pct_names.proofs.Names.{Some, Status, Stmt, sym, Thread, thread_with, Transition, transition_by, true, true_from_ne_false}
-use Rattle.pct_names.proofs.Names.{value_of, What, with_id, ◌||◌, ℕ, ◌∙◌, ◌∷◌, ◌≡◌}
+use Rattle.pct_names.proofs.Names.{◌&&◌, ◌++◌, and_from, ap, Bool, Config, Entry, environment_of, event_of, false, false_from_ne_true}
+use Rattle.pct_names.proofs.Names.{false≢true, is_ended_status, join_point, List, list_all, made_process, made_thread, map, nat_eq}
+use Rattle.pct_names.proofs.Names.{NextStatement, not, Option, option_and_then, option_map_or, Process, refl, reverse, Run, run, same_Some}
+use Rattle.pct_names.proofs.Names.{Script, Some, Status, Stmt, sym, Thread, thread_with, Transition, transition_by, true}
+use Rattle.pct_names.proofs.Names.{true_from_ne_false, value_of, What, with_id, ◌||◌, ℕ, ◌∙◌, ◌∷◌, ◌≡◌}
 use Rattle.std.proofs.Common.{eq-eqb}
 use Rattle.std.proofs.lemmas.Bool.{true≢false}
 use Rattle.pct_model.specs.declared.event.What.TheVariants as what
@@ -11,7 +11,7 @@ use Rattle.pct_model.specs.declared.state.Status.TheVariants as status
 use Rattle.pct_transition_cases.proofs.TransitionCases.{TransitionCase, join_ended, thread_detached, request_sent, fork_handler_called}
 use Rattle.pct_laws.specs.Each.{each}
 use Rattle.pct_laws.specs.JoinLaw.{is_live, may_name, allows}
-use Rattle.pct_laws.specs.NewestEvents.{calls_point}
+use Rattle.pct_laws.specs.NewestEvents.{reports_call}
 use Rattle.pct_laws.specs.Kept.{ThreadKept}
 use Rattle.pct_laws.specs.KnownThreads.{is_joined, is_detached}
 use Rattle.pct_laws.specs.ThreadSummary.{ThreadSummary, summary_of}
@@ -22,7 +22,7 @@ use Rattle.pct_thread_invariants.proofs.lift.MovedThreads.{case_of_step}
 use Rattle.pct_thread_invariants.proofs.lift.TakenSteps.{IsTaken, every_run}
 use Rattle.pct_thread_invariants.proofs.lift.ReportedBy.{reported_by, of_thread}
 use Rattle.pct_thread_invariants.proofs.lift.EveryThread.{of_made_thread}
-use Rattle.pct_thread_invariants.proofs.lift.MadeThreads.{IsLive, live_thread}
+use Rattle.pct_thread_invariants.proofs.lift.MadeThreads.{HasValidId, with_valid_id}
 use Rattle.pct_thread_invariants.proofs.lift.EveryProcess.{process_taken, ids_of_run, moves_of_run}
 use Rattle.pct_thread_invariants.proofs.thread.EndingSteps.{goes_on}
 use Rattle.pct_thread_invariants.proofs.thread.ThreadRule.{summary, FitsAny}
@@ -47,13 +47,13 @@ module _ (script : Script) (config : Config) (before : List Entry) (r : Run) (is
   process_is : made_process e.pid r.world ≡ Some p
   process_is = process_taken script config before r is e p t taken
 
-  live : (id : ℕ) (u : Thread) → with_id id p.threads ≡ Some u → IsLive p id u
-  live id u is_u = live_thread id p u (ids_of_run script config before r is e.pid p process_is).distinct is_u
+  live : (id : ℕ) (u : Thread) → with_id id p.threads ≡ Some u → HasValidId p id u
+  live id u is_u = with_valid_id id p u (ids_of_run script config before r is e.pid p process_is).distinct is_u
 
   made : (id : ℕ) (u : Thread) → with_id id p.threads ≡ Some u → made_thread e.pid id r.world ≡ Some u
   made id u is_u = ap (option_and_then (thread_with id)) process_is ∙ (live id u is_u).found
 
-  it : IsLive p e.tid t
+  it : HasValidId p e.tid t
   it = live e.tid t taken.is_thread
 
   it_made : made_thread e.pid e.tid r.world ≡ Some t
@@ -71,7 +71,7 @@ module _ (script : Script) (config : Config) (before : List Entry) (r : Run) (is
   -- a thread that another one names, which has not ended
   names_live : (id : ℕ) (u : Thread) → t.ended ≡ false → with_id id p.threads ≡ Some u → is_live e.pid id r.events ≡ true
   names_live id u alive is_u =
-      let target : IsLive p id u = live id u is_u in
+      let target : HasValidId p id u = live id u is_u in
       let kept : ThreadKept script p.shared.keys u (summary_of e.pid id r.events) = threads_kept script config before r is e.pid id p u process_is target.found target.here in
       let has_status : u.ended ≡ true → is_ended_status u.status ≡ true = λ ended. true_from_ne_false (is_ended_status u.status) (λ exits.
       true≢false (sym (last_exits script config (threads_fit script config) before r is e.pid p process_is id u target.found (target.here, ended, exits) e.tid t it.found it.here) ∙ alive)) in
@@ -86,19 +86,19 @@ module _ (script : Script) (config : Config) (before : List Entry) (r : Run) (is
   -- a thread that is joined
   joins_ended : (id v : ℕ) (u : Thread) → t.status ≡ status.Joining id → with_id id p.threads ≡ Some u → u.status ≡ status.Ended v → may_name (what.Joined id v) e.pid e.tid r.events ≡ true
   joins_ended id v u joins is_u ended =
-      let target : IsLive p id u = live id u is_u in
+      let target : HasValidId p id u = live id u is_u in
       let kept : ThreadKept script p.shared.keys u (summary_of e.pid id r.events) = threads_kept script config before r is e.pid id p u process_is target.found target.here in
       let one : JoinsOne p.threads e.tid id = (joins_of_processes script config before r is e.pid p process_is).joins e.tid t it.found it.here id joins in
       let same : one.target ≡ u = same_Some one.target u (sym one.made ∙ target.found) in
       and_from _ _ (and_from _ _ (and_from _ _ (ap (λ (value : Option ℕ). option_map_or (λ n. nat_eq n v) value false) (kept.value v ended) ∙ eq-eqb v v refl)
       (ap not (sym (joined_of_run script config before r is e.pid id u (made id u is_u) target.here) ∙ ap (λ (x : Thread). x.joined) (sym same) ∙ one.not_joined)))
       (ap not (sym (detached_of_run script config before r is e.pid id u (made id u is_u) target.here) ∙ ap (λ (x : Thread). x.detached) (sym same) ∙ one.joinable)))
-      (ap (λ (o : Option What). option_map_or (calls_point join_point) o false) (newest_call_of_run script config before r is e.pid e.tid t it_made it.here (what.Called join_point) (ap call_event joins)))
+      (ap (λ (o : Option What). option_map_or (reports_call join_point) o false) (newest_call_of_run script config before r is e.pid e.tid t it_made it.here (what.Called join_point) (ap call_event joins)))
 
   -- the events of a transition
-  case_lawful : {body : List Stmt} {next : NextStatement} {s : Status} {o : Transition} → t.status ≡ s → TransitionCase config.passes body p.shared t (others_of config.slots r.world p t.id) true next s o → (t.ended ≡ true → list_all names_none (reverse o.events) ≡ true) → each allows r.events ≡ true
+  case_lawful : {body : List Stmt} {next : NextStatement} {s : Status} {o : Transition} → t.status ≡ s → TransitionCase config.passes body p.shared t (environment_of config.slots r.world p t.id) true next s o → (t.ended ≡ true → list_all names_none (reverse o.events) ≡ true) → each allows r.events ≡ true
       → each allows (map (event_of e) (reverse o.events) ++ r.events) ≡ true
-  unfolding others_of
+  unfolding environment_of
   case_lawful joins (join_ended frame operand d id v target is ended) silent law = and_from _ _ (joins_ended id v target joins is ended) law
   case_lawful runs (thread_detached frame id target is joinable alone) silent law = and_from _ _ (names_live (value_of p.shared.globals frame id) target (not_ended silent) is) law
   case_lawful runs (request_sent frame id target is) silent law = and_from _ _ (names_live (value_of p.shared.globals frame id) target (not_ended silent) is) law

@@ -7,18 +7,21 @@ use Rattle.pct_names.proofs.Names.{thread_moved, thread_with, Transition, transi
 use mathlib.Core.Bool.{and-true, and-false, or-false, or_assoc}
 use mathlib.Core.Path.{fun_ext}
 use Rattle.std.proofs.Common.{eqb-true}
-use Rattle.pct_laws.specs.KnownThreads.{makes_process, is_in, is_fork_of, creates_id, is_known, detaches_id, is_detached, joins_id, is_joined}
+use Rattle.pct_laws.specs.KnownThreads.{makes_process, is_in, is_fork_of, creates_id, is_known, detaches_id, is_detached, joins_id}
+use Rattle.pct_laws.specs.KnownThreads.{is_joined}
 use Rattle.pct_thread_invariants.proofs.lift.KeyedLists.{found_passes}
 use Rattle.pct_thread_invariants.proofs.lift.TakenSteps.{AfterEveryRun}
 use Rattle.pct_thread_invariants.proofs.lift.CreatedThreads.{reports_created}
 use Rattle.pct_thread_invariants.proofs.lift.ChangedThreads.{other_threads}
 use Rattle.pct_thread_invariants.proofs.lift.ReportedBy.{Reading, reported_by, is_reading, after_own}
-use Rattle.pct_thread_invariants.proofs.lift.ThreadsAfter.{initial_thread, created_thread, Moves, mover, After, was_made, is_new, is_absent, after, same_gone}
+use Rattle.pct_thread_invariants.proofs.lift.ThreadsAfter.{initial_thread, created_thread, Moves, mover, After, was_made, is_new, is_absent}
+use Rattle.pct_thread_invariants.proofs.lift.ThreadsAfter.{after, same_gone}
 use Rattle.pct_thread_invariants.proofs.lift.InheritedThreads.{Heir, is_replica, is_gone, has_none, heir}
-use Rattle.pct_thread_invariants.proofs.lift.MadeThreads.{IsLive}
+use Rattle.pct_thread_invariants.proofs.lift.MadeThreads.{HasValidId}
 use Rattle.pct_thread_invariants.proofs.lift.EveryProcess.{FitsReports, IsProcessRule, every_process, moves_of_run}
 use Rattle.pct_thread_invariants.proofs.thread.JoinTransitions.{Kind, kind_of, its_case, names_detach, names_join, releases}
-use Rattle.pct_thread_invariants.proofs.thread.NamedThreads.{joined_reported, detached_reported, unnamed, joined_after, detached_after, IsNamed, is_named}
+use Rattle.pct_thread_invariants.proofs.thread.NamedThreads.{joined_reported, detached_reported, unnamed, joined_after, detached_after}
+use Rattle.pct_thread_invariants.proofs.thread.NamedThreads.{IsNamed, is_named}
 
 -- ---- a flag of threads
 
@@ -125,7 +128,7 @@ module _ (flag : Flag) where
 
     born_by : (id : ℕ) {found : Option Thread} → Heir p e.tid t id found → reported_at_birth id (nat_eq e.tid id) ≡ is_set found
     born_by id (is_replica named) =
-        let it : IsLive p e.tid t = mover script config w p e t moves in
+        let it : HasValidId p e.tid t = mover script config w p e t moves in
         let found : thread_with id p ≡ Some t = ap (λ (n : ℕ). thread_with n p) (sym (eqb-true e.tid id named)) ∙ it.found in
         let parent : k id ≡ flag.of t = reported id ∙ ap is_set found ∙ ap (λ (gone : Bool). not gone && flag.of t) it.here in
         ap (reported_at_birth id) named ∙ ap (λ (b : Bool). cond b (flag.replica (k id) (flag.start false)) (flag.start false)) (and-true flag.inherits)

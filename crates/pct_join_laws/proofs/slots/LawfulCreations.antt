@@ -1,7 +1,7 @@
 -- The law of thread ids and slots holds of the events of every run.
-use Rattle.pct_names.proofs.Names.{◌++◌, and_from, ap, Bool, Config, Entry, event_of, false, List, made_process, map, nat_eq, NewThread}
-use Rattle.pct_names.proofs.Names.{NextStatement, not, others_of, Process, refl, reverse, Run, run, Script, slot_of, Some, Status, Stmt}
-use Rattle.pct_names.proofs.Names.{sym, Thread, thread_with, Transition, true, value_of, What, ◌||◌, ℕ, ◌∙◌, ◌∷◌, ◌≡◌}
+use Rattle.pct_names.proofs.Names.{◌++◌, and_from, ap, Bool, Config, Entry, environment_of, event_of, false, List, made_process, map}
+use Rattle.pct_names.proofs.Names.{nat_eq, NewThread, NextStatement, not, Process, refl, reverse, Run, run, Script, slot_of, Some, Status}
+use Rattle.pct_names.proofs.Names.{Stmt, sym, Thread, thread_with, Transition, true, value_of, What, ◌||◌, ℕ, ◌∙◌, ◌∷◌, ◌≡◌}
 use Rattle.std.proofs.Common.{eqb-true}
 use Rattle.pct_model.specs.declared.event.What.TheVariants as what
 use Rattle.pct_laws.specs.Each.{each}
@@ -39,9 +39,9 @@ module _ (script : Script) (config : Config) (before : List Entry) (r : Run) (is
           reclaimed_of_run script config before r is e.pid p process_is tid it.thread it.is it.here over.0 over.1
 
   -- the events of a transition
-  case_lawful : {body : List Stmt} {next : NextStatement} {s : Status} {o : Transition} → TransitionCase config.passes body p.shared t (others_of config.slots r.world p t.id) true next s o → each (allows config.slots) r.events ≡ true
+  case_lawful : {body : List Stmt} {next : NextStatement} {s : Status} {o : Transition} → TransitionCase config.passes body p.shared t (environment_of config.slots r.world p t.id) true next s o → each (allows config.slots) r.events ≡ true
       → each (allows config.slots) (map (event_of e) (reverse o.events) ++ r.events) ≡ true
-  unfolding others_of
+  unfolding environment_of
   case_lawful (thread_made frame result id f v detached new among) law =
       and_from _ _ (takes_free_slot (record { id = new; detached = detached; func = f; arg = value_of p.shared.globals frame v }) (is_on_free_slot config.slots p.threads new (among refl))) law
   case_lawful (fork_handler_called next at call is) law = of_each_phase (λ (w : What). each (allows config.slots) (event_of e w ∷ r.events) ≡ true) call.func law law law at.phase

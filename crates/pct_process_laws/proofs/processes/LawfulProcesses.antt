@@ -1,8 +1,8 @@
 -- The law of processes holds of the events of every run.
-use Rattle.pct_names.proofs.Names.{◌%◌, ◌++◌, [], and_from, and_parts, ap, arith, body_at, Bool, cond, Config, encode, Entry, Event}
-use Rattle.pct_names.proofs.Names.{event_of, false, false_from_ne_true, false≢true, is_none, is_some, List, list_any, map, mod_below}
-use Rattle.pct_names.proofs.Names.{nat_eq, nat_lt, next_of, NextStatement, None, not, Option, or_from, or_left, or_parts, or_right, Others}
-use Rattle.pct_names.proofs.Names.{others_of, Process, refl, reverse, Run, run, Script, SharedState, Some, Status, Stmt, sym, syntax_of}
+use Rattle.pct_names.proofs.Names.{◌%◌, ◌++◌, [], and_from, and_parts, ap, arith, body_at, Bool, cond, Config, encode, Entry, Environment}
+use Rattle.pct_names.proofs.Names.{environment_of, Event, event_of, false, false_from_ne_true, false≢true, is_none, is_some, List, list_any}
+use Rattle.pct_names.proofs.Names.{map, mod_below, nat_eq, nat_lt, next_of, NextStatement, None, not, Option, or_from, or_left, or_parts}
+use Rattle.pct_names.proofs.Names.{or_right, Process, refl, reverse, Run, run, Script, SharedState, Some, Status, Stmt, sym, syntax_of}
 use Rattle.pct_names.proofs.Names.{Thread, Transition, transition_by, true, value_of, What, without_first, ℕ, ◌∙◌, ◌∷◌, ◌≡◌}
 use Rattle.std.proofs.Common.{eq-eqb}
 use Rattle.std.proofs.lemmas.Bool.{lt-ltb}
@@ -46,18 +46,18 @@ none_is : (k : Option ℕ) → is_some k ≡ false → is_none k ≡ true
 none_is None none = refl
 none_is (Some v) none = absurd (false≢true (sym none))
 
-module _ (passes : ℕ) (body : List Stmt) (shared : SharedState) (t : Thread) (others : Others) (e : Entry) (earlier : List Event) where
+module _ (passes : ℕ) (body : List Stmt) (shared : SharedState) (t : Thread) (environment : Environment) (e : Entry) (earlier : List Event) where
   -- what is known of a thread with a status, at a statement, and of the events before its transition
   record IsReady (next : NextStatement) (s : Status) : Type 0 where
     -- the next process was not made, and has no event
-    forks : (new : ℕ) → others.family.new_pid ≡ Some new → may_change (what.Forked new) e.pid e.tid earlier ≡ true
+    forks : (new : ℕ) → environment.family.new_pid ≡ Some new → may_change (what.Forked new) e.pid e.tid earlier ≡ true
     -- a thread that is joined is known, and another one
-    joins : (id v : ℕ) (target : Thread) → s ≡ status.Joining id → others.named id ≡ Some target → may_change (what.Joined id v) e.pid e.tid earlier ≡ true
+    joins : (id v : ℕ) (target : Thread) → s ≡ status.Joining id → environment.named id ≡ Some target → may_change (what.Joined id v) e.pid e.tid earlier ≡ true
     -- a child that has ended may be reaped
-    reaps : (pid n : ℕ) (child : Child) → others.family.child pid ≡ Some child → child.ended ≡ Some n → may_change (what.Reaped pid n) e.pid e.tid earlier ≡ true
+    reaps : (pid n : ℕ) (child : Child) → environment.family.child pid ≡ Some child → child.ended ≡ Some n → may_change (what.Reaped pid n) e.pid e.tid earlier ≡ true
     -- the exit value of the process is the reported one; it has none as its last thread ends
     value : exit_value e.pid earlier ≡ shared.exit_value
-    last : others.is_last ≡ true → s ≡ status.Ending → is_some shared.exit_value ≡ false
+    last : environment.is_last ≡ true → s ≡ status.Ending → is_some shared.exit_value ≡ false
     -- a thread that exits runs plain functions alone
     plain : s ≡ status.Running → (summary_of e.pid e.tid earlier).exiting ≡ true → is_plain_next next ≡ true
 
@@ -70,7 +70,7 @@ module _ (passes : ℕ) (body : List Stmt) (shared : SharedState) (t : Thread) (
   not_exited ready none = none_is (exit_value e.pid earlier) (ap (λ (k : Option ℕ). is_some k) ready.value ∙ none)
 
   -- the events of a transition
-  case_changes : {next : NextStatement} {s : Status} {o : Transition} → TransitionCase passes body shared t others true next s o → IsReady next s → ChangesLaw earlier → ChangesLaw (map (event_of e) (reverse o.events) ++ earlier)
+  case_changes : {next : NextStatement} {s : Status} {o : Transition} → TransitionCase passes body shared t environment true next s o → IsReady next s → ChangesLaw earlier → ChangesLaw (map (event_of e) (reverse o.events) ++ earlier)
   unfolding encode syntax_of
   case_changes (main_returned frame s v returns is none) ready law = and_from _ _ (not_exited ready none) law
   case_changes (process_exited frame v none) ready law = and_from _ _ (not_exited ready none) law
@@ -122,8 +122,8 @@ module _ (script : Script) (config : Config) where
     o = transition_by script config r.world p t e.alt
 
     -- all this is known of the thread of an entry
-    is_ready : IsReady config.passes (body_at script t.frames) p.shared t (others_of config.slots r.world p t.id) e r.events (next_of script t.frames) t.status
-    unfolding others_of
+    is_ready : IsReady config.passes (body_at script t.frames) p.shared t (environment_of config.slots r.world p t.id) e r.events (next_of script t.frames) t.status
+    unfolding environment_of
     is_ready = record {
       forks = λ new next. let made = next_unmade script config before r is e p t taken new (gives_next script config r.world p t e.alt taken.offered new next) in and_from _ _ (ap not made.0) (ap not made.1);
       joins = λ id v target s named. joins_known script config before r is e p t taken id target s named v;
@@ -136,9 +136,9 @@ module _ (script : Script) (config : Config) where
     -- each event of a step may change what it changes
     changes_later : ChangesLaw r.events → ChangesLaw (with_step e o r).events
     changes_later law =
-        let others : Others = others_of config.slots r.world p t.id in
-        case_changes config.passes (body_at script t.frames) p.shared t others e r.events
-        (case_of config.passes (body_at script t.frames) p.shared t others true e.alt (next_of script t.frames) t.status (λ known. taken.offered))
+        let environment : Environment = environment_of config.slots r.world p t.id in
+        case_changes config.passes (body_at script t.frames) p.shared t environment e r.events
+        (case_of config.passes (body_at script t.frames) p.shared t environment true e.alt (next_of script t.frames) t.status (λ known. taken.offered))
         is_ready law
 
     -- the law after the events of a step

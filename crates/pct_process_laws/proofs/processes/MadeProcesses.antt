@@ -13,7 +13,7 @@ use Rattle.pct_join_laws.proofs.joins.ReportedFlags.{known_of_run}
 use Rattle.pct_thread_invariants.proofs.lift.EveryProcess.{process_taken, ids_of_run}
 use Rattle.pct_thread_invariants.proofs.lift.KeyedLists.{found_at, not_found}
 use Rattle.pct_thread_invariants.proofs.lift.MadeNumbers.{numbers_of_run}
-use Rattle.pct_thread_invariants.proofs.lift.MadeThreads.{IsLive, live_thread}
+use Rattle.pct_thread_invariants.proofs.lift.MadeThreads.{HasValidId, with_valid_id}
 use Rattle.pct_thread_invariants.proofs.lift.ProcessIds.{have_pids, next_is_new}
 use Rattle.pct_thread_invariants.proofs.lift.TakenSteps.{IsTaken}
 
@@ -60,8 +60,8 @@ module _ (script : Script) (config : Config) (before : List Entry) (r : Run) (is
   -- ---- the thread of an entry
 
   -- it is one that was made, and is not gone
-  pub it_is : IsLive p e.tid t
-  it_is = live_thread e.tid p t (ids_of_run script config before r is e.pid p (process_taken script config before r is e p t taken)).distinct taken.is_thread
+  pub it_is : HasValidId p e.tid t
+  it_is = with_valid_id e.tid p t (ids_of_run script config before r is e.pid p (process_taken script config before r is e p t taken)).distinct taken.is_thread
 
   -- it is known before the step, and after some events of the step
   pub known_by : (added : List What) → is_known e.pid e.tid (map (event_of e) added ++ r.events) ≡ true

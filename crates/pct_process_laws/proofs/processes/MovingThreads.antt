@@ -1,10 +1,10 @@
 -- What is known of the thread of an entry: one that joins another, one that exits its process, and one that ends as the last thread of its
 -- process, in which exit has not begun then.
-use Rattle.pct_names.proofs.Names.{[], All, All-head, All-tail, and_from, and_left, ap, Bool, cond, Config, Entry, Event, false}
-use Rattle.pct_names.proofs.Names.{false_from_ne_true, false≢true, Frame, holds_slot, inl, inr, is_ended_status, is_live_thread, is_some}
-use Rattle.pct_names.proofs.Names.{IsOfThread, List, made_process, made_thread, nat_eq, next_of, None, not, Option, option_and_then}
-use Rattle.pct_names.proofs.Names.{option_map_or, or_left, others_of, Process, refl, Run, run, same_Some, Script, Some, Status, subst, sym}
-use Rattle.pct_names.proofs.Names.{Thread, thread_with, true, What, with_id, World, ℕ, ◌∙◌, ◌∷◌, ◌≡◌, ◌⊎◌}
+use Rattle.pct_names.proofs.Names.{[], All, All-head, All-tail, and_from, and_left, ap, Bool, cond, Config, Entry, environment_of, Event}
+use Rattle.pct_names.proofs.Names.{false, false_from_ne_true, false≢true, Frame, has_valid_id, holds_slot, inl, inr, is_ended_status}
+use Rattle.pct_names.proofs.Names.{is_some, IsOfThread, List, made_process, made_thread, nat_eq, next_of, None, not, Option}
+use Rattle.pct_names.proofs.Names.{option_and_then, option_map_or, or_left, Process, refl, Run, run, same_Some, Script, Some, Status, subst}
+use Rattle.pct_names.proofs.Names.{sym, Thread, thread_with, true, What, with_id, World, ℕ, ◌∙◌, ◌∷◌, ◌≡◌, ◌⊎◌}
 use Rattle.std.proofs.Common.{eq-eqb, eqb-true, ne_eqb}
 use Rattle.std.specs.Option.{IsSomeAnd}
 use Rattle.std.proofs.lemmas.Bool.{true≢false}
@@ -20,7 +20,7 @@ use Rattle.pct_thread_invariants.proofs.ThreadsOfRun.{threads_fit, threads_kept,
 use Rattle.pct_thread_invariants.proofs.lift.EveryProcess.{process_taken, ids_of_run, moves_of_run}
 use Rattle.pct_thread_invariants.proofs.lift.KeyedLists.{found_passes}
 use Rattle.pct_thread_invariants.proofs.lift.MadeNumbers.{numbers_of_run}
-use Rattle.pct_thread_invariants.proofs.lift.MadeThreads.{IsLive, live_thread}
+use Rattle.pct_thread_invariants.proofs.lift.MadeThreads.{HasValidId, with_valid_id}
 use Rattle.pct_thread_invariants.proofs.lift.TakenSteps.{IsTaken}
 use Rattle.pct_thread_invariants.proofs.lift.SummaryEnds.{begins_exit, exiting_after, exiting_stays}
 use Rattle.pct_process_laws.proofs.processes.ProcessEnds.{exit_value_of_run}
@@ -81,7 +81,7 @@ module _ (script : Script) (config : Config) (before : List Entry) (r : Run) (is
   process_is = process_taken script config before r is e p t taken
 
   -- the thread of the entry
-  it : IsLive p e.tid t
+  it : HasValidId p e.tid t
   it = it_is script config before r is e p t taken
 
   -- what is kept of each thread of the process
@@ -99,7 +99,7 @@ module _ (script : Script) (config : Config) (before : List Entry) (r : Run) (is
   -- a thread that joins one of its process
   pub joins_known : (id : ℕ) (u : Thread) → t.status ≡ status.Joining id → with_id id p.threads ≡ Some u → (v : ℕ) → may_change (what.Joined id v) e.pid e.tid r.events ≡ true
   joins_known id u joins is_u v =
-      let target : IsLive p id u = live_thread id p u (ids_of_run script config before r is e.pid p process_is).distinct is_u in
+      let target : HasValidId p id u = with_valid_id id p u (ids_of_run script config before r is e.pid p process_is).distinct is_u in
       and_from _ _ (and_from _ _ (known_of_run script config before r is e.pid id ∙ ap (λ (found : Option Thread). option_map_or (λ x. not x.gone) found false) (ap (option_and_then (thread_with id)) process_is ∙ target.found) ∙ ap not target.here)
       (ap not (ne_eqb id e.tid ((joins_of_processes script config before r is e.pid p process_is).joins e.tid t it.found it.here id joins).other)))
       (ap not ((kept e.tid t it.found it.here).ended ∙ alive joins refl refl))
@@ -113,21 +113,21 @@ module _ (script : Script) (config : Config) (before : List Entry) (r : Run) (is
       plain_if_exits script t.frames (ap (λ (s : Status). is_exiting s t.frames) (sym runs) ∙ sym of_it.exiting ∙ exits) of_it.exit_frames
 
   -- as the last thread of a process ends, no thread of it exits
-  none_exits : (others_of config.slots r.world p t.id).is_last ≡ true → t.status ≡ status.Ending → (tid : ℕ) (u : Thread) → thread_with tid p ≡ Some u → u.gone ≡ false → (summary_of e.pid tid r.events).exiting ≡ true → ⊥
-  unfolding others_of
+  none_exits : (environment_of config.slots r.world p t.id).is_last ≡ true → t.status ≡ status.Ending → (tid : ℕ) (u : Thread) → thread_with tid p ≡ Some u → u.gone ≡ false → (summary_of e.pid tid r.events).exiting ≡ true → ⊥
+  unfolding environment_of
   none_exits last ends tid u found here exits =
       let is_exit : is_exiting u.status u.frames ≡ true = sym (kept tid u found here).exiting ∙ exits in
       let number : u.id ≡ tid = eqb-true u.id tid (found_passes (λ (x : Thread). nat_eq x.id tid) p.threads u found) in
       let differs : nat_eq u.id t.id ≡ false = ne_eqb u.id t.id (λ same.
       let it_too : t ≡ u = same_Some t u (sym it.found ∙ ap (λ (n : ℕ). thread_with n p) (sym it.number ∙ sym same ∙ number) ∙ found) in
       false≢true (sym (ap (λ (s : Status). is_exiting s t.frames) ends) ∙ ap (λ (x : Thread). is_exiting x.status x.frames) it_too ∙ is_exit)) in
-      let not_it : is_live_thread e.tid u ≡ false = and_left (nat_eq u.id e.tid) (holds_slot u) (ap (nat_eq u.id) (sym it.number) ∙ differs) in
+      let not_it : has_valid_id e.tid u ≡ false = and_left (nat_eq u.id e.tid) (holds_slot u) (ap (nat_eq u.id) (sym it.number) ∙ differs) in
       let ended : u.ended ≡ true = others_if_last script config r.world p e t (of_its_threads summary (FitsAny script config.passes) r (threads_fit script config before r is) e.pid p process_is) (moves_of_run script config before r is e p t taken)
       (last_exits script config (threads_fit script config) before r is e.pid p process_is) last tid u found here not_it in
       true≢false (sym (last_kept script config before r is e.pid p process_is tid u found here ended exits e.tid t it.found it.here) ∙ alive ends refl refl)
 
   -- so the process has no exit value then
-  pub last_has_none : (others_of config.slots r.world p t.id).is_last ≡ true → t.status ≡ status.Ending → is_some p.shared.exit_value ≡ false
+  pub last_has_none : (environment_of config.slots r.world p t.id).is_last ≡ true → t.status ≡ status.Ending → is_some p.shared.exit_value ≡ false
   last_has_none last ends = false_from_ne_true (is_some p.shared.exit_value) (λ some.
       let x : SomeThread e.pid r.world r.events = some_thread e.pid r.world r.events (numbers_of_run script config before r is).of_threads (ap (λ (v : Option ℕ). is_some v) (sym (exit_value_of_run script config before r is e.pid p process_is)) ∙ some) in
       let u = found_thread (thread_with x.tid p) (subst (λ (found : Option Process). IsSomeAnd (option_and_then (thread_with x.tid) found) (λ t. t.gone ≡ false)) process_is x.made) in

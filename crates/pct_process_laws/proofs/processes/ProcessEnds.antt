@@ -1,14 +1,15 @@
 -- The exit value and the status of each process are those that the events report.
-use Rattle.pct_names.proofs.Names.{and_parts, ap, as_reaped, body_at, Bool, changed, child_of, cond, Config, Entry, event_of, false}
-use Rattle.pct_names.proofs.Names.{false≢true, has_ended, is_live_process, is_none, is_some, List, map, nat_eq, next_of, NextStatement}
-use Rattle.pct_names.proofs.Names.{None, not, Option, option_map, orphaned, other_process_after, Others, others_of, Process, process_after}
-use Rattle.pct_names.proofs.Names.{ProcessAction, ProcessEnd, refl, reverse, Run, run, Script, shared_after, SharedState, Some, Status}
-use Rattle.pct_names.proofs.Names.{Stmt, subst, sym, Thread, Transition, true, What, ℕ, ◌∙◌, ◌≡◌}
+use Rattle.pct_names.proofs.Names.{and_parts, ap, as_reaped, body_at, Bool, changed, child_of, cond, Config, Entry, Environment}
+use Rattle.pct_names.proofs.Names.{environment_of, event_of, false, false≢true, has_ended, is_live_process, is_none, is_some, List, map}
+use Rattle.pct_names.proofs.Names.{nat_eq, next_of, NextStatement, None, not, Option, option_map, orphaned, other_process_after, Process}
+use Rattle.pct_names.proofs.Names.{process_after, ProcessAction, ProcessEnd, refl, reverse, Run, run, Script, shared_after, SharedState}
+use Rattle.pct_names.proofs.Names.{Some, Status, Stmt, subst, sym, Thread, Transition, true, What, ℕ, ◌∙◌, ◌≡◌}
 use Rattle.pct_model.specs.declared.transition.ProcessAction.TheVariants as process_action
 use Rattle.pct_laws.specs.Kept.{EachProcess, status_of_end}
 use Rattle.pct_laws.specs.ProcessEnds.{status_after, end_status, exit_after, exit_value}
 use Rattle.pct_transition_cases.proofs.CaseOfTransition.{case_of}
-use Rattle.pct_transition_cases.proofs.TransitionCases.{TransitionCase, fork_handler_called, process_ended_now, process_ended, main_returned, last_ended, last_ended_with_keys, process_exited}
+use Rattle.pct_transition_cases.proofs.TransitionCases.{TransitionCase, fork_handler_called, process_ended_now, process_ended}
+use Rattle.pct_transition_cases.proofs.TransitionCases.{main_returned, last_ended, last_ended_with_keys, process_exited}
 use Rattle.pct_thread_invariants.proofs.lift.ChangedThreads.{either_keeps, other_shared}
 use Rattle.pct_thread_invariants.proofs.lift.EveryProcess.{process_taken, of_made, IsProcessRule, every_process}
 use Rattle.pct_thread_invariants.proofs.lift.HandlerEvents.{of_each_phase}
@@ -46,9 +47,9 @@ ends_reading = record { start = λ initial. (None, None); next = λ e k. (exit_a
 abbrev AreReported : Process → (Option ℕ × Option ℕ) → Type 0
 AreReported p k = (p.shared.exit_value ≡ k.0) × (status_of_end p ≡ k.1)
 
-module _ (passes : ℕ) (body : List Stmt) (t : Thread) (others : Others) (offered : Bool) (e : Entry) where
+module _ (passes : ℕ) (body : List Stmt) (t : Thread) (environment : Environment) (offered : Bool) (e : Entry) where
   -- after a transition they are those that its events report, or those from before
-  case_ends : (p : Process) (k : Option ℕ × Option ℕ) → AreReported p k → {next : NextStatement} {s : Status} {o : Transition} → TransitionCase passes body p.shared t others offered next s o
+  case_ends : (p : Process) (k : Option ℕ × Option ℕ) → AreReported p k → {next : NextStatement} {s : Status} {o : Transition} → TransitionCase passes body p.shared t environment offered next s o
       → AreReported (changed e.tid o p) (after_own ends_reading (map (event_of e) (reverse o.events)) k)
   unfolding process_after shared_after
   case_ends p k same (fork_handler_called next at call is) = of_each_phase (λ (w : What). AreReported p (exit_after w k.0, status_after w k.1)) call.func same same same at.phase
@@ -74,8 +75,8 @@ module _ (script : Script) (config : Config) where
   ends_rule = record {
     initial = (refl, refl);
     own = λ w p e t k known same.
-        let others : Others = others_of config.slots w p t.id in
-        case_ends config.passes (body_at script t.frames) t others false e p (k 0) same (case_of config.passes (body_at script t.frames) p.shared t others false e.alt (next_of script t.frames) t.status (λ known. absurd (false≢true known)));
+        let environment : Environment = environment_of config.slots w p t.id in
+        case_ends config.passes (body_at script t.frames) t environment false e p (k 0) same (case_of config.passes (body_at script t.frames) p.shared t environment false e.alt (next_of script t.frames) t.status (λ known. absurd (false≢true known)));
     born = λ w p e t k new known fork same. (refl, refl);
     other = λ pid o p k same. (ap (λ (s : SharedState). s.exit_value) (other_shared pid o p) ∙ same.0, other_action pid o.process p ∙ same.1);
   }

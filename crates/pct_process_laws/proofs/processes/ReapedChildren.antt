@@ -1,14 +1,14 @@
 -- waitpid gives the status of a child that a fork of the process made, that has ended, and that was not reaped before: the parent of a
 -- process forked it, its end is that of an event, and it was reaped if an event reports so.
 use Rattle.pct_names.proofs.Names.{◌&&◌, ◌+◌, [], after_transition, and_from, and_parts, and_right, ap, arith, as_reaped, body_at, Bool}
-use Rattle.pct_names.proofs.Names.{changed, child_of, cond, Config, Entry, Event, event_of, false, false_from_ne_true, false≢true}
-use Rattle.pct_names.proofs.Names.{family_among, family_of, filter, find, has_ended, inl, inr, is_live_process, is_some, is_unreaped, List}
-use Rattle.pct_names.proofs.Names.{list_any, list_any-append, made_process, map, nat_eq, next_of, NextStatement, None, none-some, not}
-use Rattle.pct_names.proofs.Names.{not-true, Option, option_map, option_or, or_cases, or_right, orphaned, other_process_after, Others}
-use Rattle.pct_names.proofs.Names.{others_of, position_or_len, Process, process_after, process_moved, ProcessAction, ProcessEnd, refl}
-use Rattle.pct_names.proofs.Names.{Relative, relative_of, reverse, Run, run, same_Some, Script, shared_moved, SharedState, Some, Status}
-use Rattle.pct_names.proofs.Names.{Stmt, subst, sym, Thread, threads_moved, Transition, transition_by, true, was_reaped, What, World, ◌||◌}
-use Rattle.pct_names.proofs.Names.{ℕ, ◌∙◌, ◌∷◌, ◌≡◌, ◌≢◌, ◌⊎◌}
+use Rattle.pct_names.proofs.Names.{changed, child_of, cond, Config, Entry, Environment, environment_of, Event, event_of, false}
+use Rattle.pct_names.proofs.Names.{false_from_ne_true, false≢true, family_among, family_of, filter, find, has_ended, inl, inr}
+use Rattle.pct_names.proofs.Names.{is_live_process, is_some, is_unreaped, List, list_any, list_any-append, made_process, map, nat_eq}
+use Rattle.pct_names.proofs.Names.{next_of, NextStatement, None, none-some, not, not-true, Option, option_map, option_or, or_cases}
+use Rattle.pct_names.proofs.Names.{or_right, orphaned, other_process_after, position_or_len, Process, process_after, process_moved}
+use Rattle.pct_names.proofs.Names.{ProcessAction, ProcessEnd, refl, Relative, relative_of, reverse, Run, run, same_Some, Script}
+use Rattle.pct_names.proofs.Names.{shared_moved, SharedState, Some, Status, Stmt, subst, sym, Thread, threads_moved, Transition}
+use Rattle.pct_names.proofs.Names.{transition_by, true, was_reaped, What, World, ◌||◌, ℕ, ◌∙◌, ◌∷◌, ◌≡◌, ◌≢◌, ◌⊎◌}
 use mathlib.Core.Bool.{or-false}
 use Rattle.std.proofs.Common.{eq-eqb, eqb-true}
 use Rattle.std.specs.Option.{IsSomeAnd}
@@ -185,22 +185,22 @@ ended_child w distinct parent pid n child is ended =
 -- ---- reaped processes
 
 -- a transition that reaps the process with an id: it finds the child, and its actions reap that
-record Reaps (others : Others) (pid : ℕ) (e : Entry) (o : Transition) : Type 0 where
+record Reaps (environment : Environment) (pid : ℕ) (e : Entry) (o : Transition) : Type 0 where
   child : Child
-  is_child : others.family.child pid ≡ Some child
+  is_child : environment.family.child pid ≡ Some child
   status : ℕ
   ended : child.ended ≡ Some status
   reaps : (q : Process) → q.pid ≡ pid → other_process_after e.pid o.process q ≡ record q { ended = as_reaped q.ended }
 
-module _ (passes : ℕ) (body : List Stmt) (shared : SharedState) (t : Thread) (others : Others) (offered : Bool) (e : Entry) (pid : ℕ) where
+module _ (passes : ℕ) (body : List Stmt) (shared : SharedState) (t : Thread) (environment : Environment) (offered : Bool) (e : Entry) (pid : ℕ) where
   -- a transition with the event that a process is reaped, reaps it
-  case_reaps : {next : NextStatement} {s : Status} {o : Transition} → TransitionCase passes body shared t others offered next s o → list_any (reaps_process pid) (reverse o.events) ≡ true → Reaps others pid e o
+  case_reaps : {next : NextStatement} {s : Status} {o : Transition} → TransitionCase passes body shared t environment offered next s o → list_any (reaps_process pid) (reverse o.events) ≡ true → Reaps environment pid e o
   unfolding other_process_after
   case_reaps (child_reaped frame result d operand q n child is ended) reaps =
       let same : q ≡ pid = eqb-true q pid (sym (or-false (nat_eq q pid)) ∙ reaps) in
       record {
         child = child;
-        is_child = ap others.family.child (sym same) ∙ is;
+        is_child = ap environment.family.child (sym same) ∙ is;
         status = n;
         ended = ended;
         reaps = λ x number. ap (λ (b : Bool). cond b (record x { ended = as_reaped x.ended }) x) (eq-eqb x.pid q (number ∙ sym same));
@@ -263,12 +263,12 @@ module _ (script : Script) (config : Config) where
 
     -- the child that the step reaps
     reaped_now : (pid : ℕ) → list_any (reaps_process pid) (reverse o.events) ≡ true → IsSomeAnd (made_process pid (after_transition e.pid e.tid o r.world)) (λ q. was_reaped q.ended ≡ true)
-    unfolding others_of
+    unfolding environment_of
     reaped_now pid reaps =
-        let others : Others = others_of config.slots r.world p t.id in
-        let c : TransitionCase config.passes (body_at script t.frames) p.shared t others true (next_of script t.frames) t.status o =
-        case_of config.passes (body_at script t.frames) p.shared t others true e.alt (next_of script t.frames) t.status (λ known. taken.offered) in
-        let it : Reaps others pid e o = case_reaps config.passes (body_at script t.frames) p.shared t others true e pid c reaps in
+        let environment : Environment = environment_of config.slots r.world p t.id in
+        let c : TransitionCase config.passes (body_at script t.frames) p.shared t environment true (next_of script t.frames) t.status o =
+        case_of config.passes (body_at script t.frames) p.shared t environment true e.alt (next_of script t.frames) t.status (λ known. taken.offered) in
+        let it : Reaps environment pid e o = case_reaps config.passes (body_at script t.frames) p.shared t environment true e pid c reaps in
         let found : IsEndedChild r.world p.pid pid it.status = ended_child r.world pids.distinct p.pid pid it.status it.child it.is_child it.ended in
         let ended : has_ended found.child ≡ true = ap (λ (end : Option ProcessEnd). is_some end) found.has_end in
         let number : found.child.pid ≡ pid = eqb-true found.child.pid pid (found_passes (λ (q : Process). nat_eq q.pid pid) r.world.processes found.child found.made) in
@@ -303,8 +303,8 @@ module _ (script : Script) (config : Config) where
         absurd (omega (arith, number, none))
 
     -- what the law asks of the event
-    pub reaps_child : (pid n : ℕ) (child : Child) → (others_of config.slots r.world p t.id).family.child pid ≡ Some child → child.ended ≡ Some n → may_change (what.Reaped pid n) e.pid e.tid r.events ≡ true
-    unfolding others_of
+    pub reaps_child : (pid n : ℕ) (child : Child) → (environment_of config.slots r.world p t.id).family.child pid ≡ Some child → child.ended ≡ Some n → may_change (what.Reaped pid n) e.pid e.tid r.events ≡ true
+    unfolding environment_of
     reaps_child pid n child is_child ended =
         let found : IsEndedChild r.world p.pid pid n = ended_child r.world (have_pids script config before r is).distinct p.pid pid n child is_child ended in
         let same : p.pid ≡ e.pid = have_pid script config before r is e p t taken in

@@ -1,8 +1,8 @@
 -- A run that was not stopped has no event of a stop; and of the events of a step only the last one stops the run or ends the process.
-use Rattle.pct_names.proofs.Names.{◌++◌, [], after_transition, Alt, ap, body_at, Bool, Config, Entry, Event, event_of, false, false≢true}
-use Rattle.pct_names.proofs.Names.{List, list_any, list_any-append, map, next_of, NextStatement, None, none-some, Option, or_from, Others}
-use Rattle.pct_names.proofs.Names.{others_of, Process, refl, reverse, Run, Script, SharedState, Status, Stmt, stop_after, sym, Thread}
-use Rattle.pct_names.proofs.Names.{Transition, transition_by, true, What, Why, without_first, World, ◌||◌, ℕ, ◌∙◌, ◌∷◌, ◌≡◌}
+use Rattle.pct_names.proofs.Names.{◌++◌, [], after_transition, Alt, ap, body_at, Bool, Config, Entry, Environment, environment_of, Event}
+use Rattle.pct_names.proofs.Names.{event_of, false, false≢true, List, list_any, list_any-append, map, next_of, NextStatement, None}
+use Rattle.pct_names.proofs.Names.{none-some, Option, or_from, Process, refl, reverse, Run, Script, SharedState, Status, Stmt, stop_after}
+use Rattle.pct_names.proofs.Names.{sym, Thread, Transition, transition_by, true, What, Why, without_first, World, ◌||◌, ℕ, ◌∙◌, ◌∷◌, ◌≡◌}
 use Rattle.pct_model.specs.declared.event.What.TheVariants as what
 use Rattle.pct_laws.specs.ProcessLaw.{is_stop}
 use Rattle.pct_transition_cases.proofs.CaseOfTransition.{case_of}
@@ -34,16 +34,16 @@ is_closing w = is_stop w || ends_process w
 
 -- ---- the table
 
-module _ (passes : ℕ) (body : List Stmt) (shared : SharedState) (t : Thread) (others : Others) (offered : Bool) where
+module _ (passes : ℕ) (body : List Stmt) (shared : SharedState) (t : Thread) (environment : Environment) (offered : Bool) where
   -- a transition that leads to no stop has no event of one
-  case_stops : {next : NextStatement} {s : Status} {o : Transition} → TransitionCase passes body shared t others offered next s o → stop_after o.stop None ≡ None → list_any is_stop (reverse o.events) ≡ false
+  case_stops : {next : NextStatement} {s : Status} {o : Transition} → TransitionCase passes body shared t environment offered next s o → stop_after o.stop None ≡ None → list_any is_stop (reverse o.events) ≡ false
   unfolding stop_after
   case_stops (stopped frame s why) none = absurd (none-some why (sym none))
   case_stops (fork_handler_called next at call is) none = of_each_phase (λ (w : What). list_any is_stop (w ∷ []) ≡ false) call.func refl refl refl at.phase
   case_stops _ none = refl
 
   -- only its last event stops the run or ends the process
-  case_closes : {next : NextStatement} {s : Status} {o : Transition} → TransitionCase passes body shared t others offered next s o → list_any is_closing (without_first (reverse o.events)) ≡ false
+  case_closes : {next : NextStatement} {s : Status} {o : Transition} → TransitionCase passes body shared t environment offered next s o → list_any is_closing (without_first (reverse o.events)) ≡ false
   case_closes (fork_handler_called next at call is) = refl
   case_closes _ = refl
 
@@ -52,16 +52,16 @@ module _ (script : Script) (config : Config) (w : World) (p : Process) (t : Thre
   o = transition_by script config w p t choice
 
   -- the transition of a thread, by case
-  its_case : TransitionCase config.passes (body_at script t.frames) p.shared t (others_of config.slots w p t.id) false (next_of script t.frames) t.status o
-  its_case = case_of config.passes (body_at script t.frames) p.shared t (others_of config.slots w p t.id) false choice (next_of script t.frames) t.status (λ known. absurd (false≢true known))
+  its_case : TransitionCase config.passes (body_at script t.frames) p.shared t (environment_of config.slots w p t.id) false (next_of script t.frames) t.status o
+  its_case = case_of config.passes (body_at script t.frames) p.shared t (environment_of config.slots w p t.id) false choice (next_of script t.frames) t.status (λ known. absurd (false≢true known))
 
   -- it has no event of a stop, if it leads to none
   stops : stop_after o.stop None ≡ None → list_any is_stop (reverse o.events) ≡ false
-  stops = case_stops config.passes (body_at script t.frames) p.shared t (others_of config.slots w p t.id) false its_case
+  stops = case_stops config.passes (body_at script t.frames) p.shared t (environment_of config.slots w p t.id) false its_case
 
   -- only the last event of a step stops the run or ends the process
   pub closes_last : list_any is_closing (without_first (reverse o.events)) ≡ false
-  closes_last = case_closes config.passes (body_at script t.frames) p.shared t (others_of config.slots w p t.id) false its_case
+  closes_last = case_closes config.passes (body_at script t.frames) p.shared t (environment_of config.slots w p t.id) false its_case
 
 -- ---- every run
 

@@ -1,7 +1,8 @@
 -- A thread that exits its process, in a function registered with atexit: the function is plain, so that it goes on, jumps or returns.
-use Rattle.pct_names.proofs.Names.{◌<◌, [], acts, ap, body_of, Dest, encode, false, false≢true, Frame, FrameKind, frames_written}
-use Rattle.pct_names.proofs.Names.{has_begun_to_end, inl, inr, length, List, NextStatement, or_right, Others, own_after, refl, Script}
-use Rattle.pct_names.proofs.Names.{SharedState, Some, Stmt, suc, sym, syntax_of, Thread, thread_at, Transition, true, ℕ, ◌∙◌, ◌∷◌, ◌≡◌}
+use Rattle.pct_names.proofs.Names.{◌<◌, [], acts, ap, body_of, Dest, encode, Environment, false, false≢true, Frame, FrameKind}
+use Rattle.pct_names.proofs.Names.{frames_written, has_begun_to_end, inl, inr, length, List, NextStatement, or_right, own_after, refl}
+use Rattle.pct_names.proofs.Names.{Script, SharedState, Some, Stmt, suc, sym, syntax_of, Thread, thread_at, Transition, true, ℕ, ◌∙◌, ◌∷◌}
+use Rattle.pct_names.proofs.Names.{◌≡◌}
 use Rattle.pct_model.specs.declared.event.What.TheVariants as what
 use Rattle.pct_model.specs.declared.state.FrameKind.TheVariants as kind
 use Rattle.pct_model.specs.declared.state.Status.TheVariants as status
@@ -53,8 +54,8 @@ module _ (script : Script) (passes : ℕ) (matches : PushesMatch script) (t : Th
     other_kind k other is = false≢true (sym other ∙ ap is_exit_kind (sym is ∙ exits.0))
 
     -- its transitions
-    pub exit_step_keeps : {shared : SharedState} {others : Others} {body : List Stmt} {next : NextStatement} {o : Transition} → IsPlaced script (frame ∷ []) body next
-        → TransitionCase passes body shared (running t (frame ∷ [])) others true next status.Running o → is_plain_next next ≡ true → KeepsAny script passes (running t (frame ∷ [])) reported o
+    pub exit_step_keeps : {shared : SharedState} {environment : Environment} {body : List Stmt} {next : NextStatement} {o : Transition} → IsPlaced script (frame ∷ []) body next
+        → TransitionCase passes body shared (running t (frame ∷ [])) environment true next status.Running o → is_plain_next next ≡ true → KeepsAny script passes (running t (frame ∷ [])) reported o
     unfolding thread_at own_after encode syntax_of
     exit_step_keeps place (rests next s alive) plain = record { own = fits; lawful = refl }
     exit_step_keeps place (stopped _ s why) plain = record { own = fits; lawful = refl }

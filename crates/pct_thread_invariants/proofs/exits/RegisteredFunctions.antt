@@ -1,10 +1,10 @@
 -- After every run, the functions that are registered with atexit and with pthread_atfork in a process are plain functions of the script.
-use Rattle.pct_names.proofs.Names.{◌++◌, [], All, All-nil, All-push, AllByRecursion, ap, body_at, changed, child_of, Config, Entry, ForkAt}
-use Rattle.pct_names.proofs.Names.{ForkHandlers, get_or_from_slice_get, handler_at, handler_for, HandlerCall, handlers_among, indexes_left}
-use Rattle.pct_names.proofs.Names.{List, next_handler, next_of, NextStatement, None, none-some, Option, option_and_then_some, option_map}
-use Rattle.pct_names.proofs.Names.{Others, others_of, Parent, Phase, Prepare, Process, refl, same_Some, Script, shared_after, shared_moved}
-use Rattle.pct_names.proofs.Names.{SharedState, slice_get, slice_get_within, Some, Status, Stmt, subst, sym, Thread, Transition}
-use Rattle.pct_names.proofs.Names.{transition_by, true, without_first, World, ℕ, ◌∷◌, ◌≡◌}
+use Rattle.pct_names.proofs.Names.{◌++◌, [], All, All-nil, All-push, AllByRecursion, ap, body_at, changed, child_of, Config, Entry}
+use Rattle.pct_names.proofs.Names.{Environment, environment_of, ForkAt, ForkHandlers, get_or_from_slice_get, handler_at, handler_for}
+use Rattle.pct_names.proofs.Names.{HandlerCall, handlers_among, indexes_left, List, next_handler, next_of, NextStatement, None, none-some}
+use Rattle.pct_names.proofs.Names.{Option, option_and_then_some, option_map, Parent, Phase, Prepare, Process, refl, same_Some, Script}
+use Rattle.pct_names.proofs.Names.{shared_after, shared_moved, SharedState, slice_get, slice_get_within, Some, Status, Stmt, subst, sym}
+use Rattle.pct_names.proofs.Names.{Thread, Transition, transition_by, true, without_first, World, ℕ, ◌∷◌, ◌≡◌}
 use Rattle.std.specs.Prelude.{option_to_list}
 use Rattle.pct_model.specs.declared.state.Phase.TheVariants.{Child}
 use Rattle.pct_laws.specs.Kept.{IsPlainFunction, IsPlainIfSome, ArePlainHandlers}
@@ -34,14 +34,14 @@ module _ (script : Script) where
   }
 
   -- the registered functions after a transition
-  case_plain : (passes : ℕ) (shared : SharedState) (t : Thread) (others : Others) {body : List Stmt} {next : NextStatement} {s : Status} {o : Transition} → IsPlaced script t.frames body next → TransitionCase passes body shared t others true next s o
+  case_plain : (passes : ℕ) (shared : SharedState) (t : Thread) (environment : Environment) {body : List Stmt} {next : NextStatement} {s : Status} {o : Transition} → IsPlaced script t.frames body next → TransitionCase passes body shared t environment true next s o
       → RegistersPlain shared → RegistersPlain (shared_moved o shared)
   unfolding shared_after
-  case_plain passes shared t others placed (exit_registered frame result f may) plain = record { exit_functions = (registered_plain script frame result f (statement_placed placed), plain.exit_functions); fork_handlers = plain.fork_handlers }
-  case_plain passes shared t others placed (exit_function_called next f functions is) plain = record { exit_functions = rest_plain shared.exit_functions plain.exit_functions; fork_handlers = plain.fork_handlers }
-  case_plain passes shared t others placed (fork_registered frame result handlers room) plain =
+  case_plain passes shared t environment placed (exit_registered frame result f may) plain = record { exit_functions = (registered_plain script frame result f (statement_placed placed), plain.exit_functions); fork_handlers = plain.fork_handlers }
+  case_plain passes shared t environment placed (exit_function_called next f functions is) plain = record { exit_functions = rest_plain shared.exit_functions plain.exit_functions; fork_handlers = plain.fork_handlers }
+  case_plain passes shared t environment placed (fork_registered frame result handlers room) plain =
       record { exit_functions = plain.exit_functions; fork_handlers = All-push (ArePlainHandlers script) shared.fork_handlers handlers plain.fork_handlers (handlers_plain script frame result handlers (statement_placed placed)) }
-  case_plain passes shared t others placed _ plain = plain
+  case_plain passes shared t environment placed _ plain = plain
 
   -- ---- the handlers of a fork
 
@@ -78,9 +78,9 @@ module _ (script : Script) where
   module _ (config : Config) where
     plain_after : (w : World) (p : Process) (e : Entry) (t : Thread) → Moves script config w p e t → RegistersPlain p.shared → RegistersPlain (changed e.tid (transition_by script config w p t e.alt) p).shared
     plain_after w p e t moves plain =
-        let others : Others = others_of config.slots w p t.id in
+        let environment : Environment = environment_of config.slots w p t.id in
         subst RegistersPlain (sym (changed_shared e.tid (transition_by script config w p t e.alt) p))
-        (case_plain config.passes p.shared t others (is_placed script t.frames) (case_of config.passes (body_at script t.frames) p.shared t others true e.alt (next_of script t.frames) t.status (λ known. moves.offered)) plain)
+        (case_plain config.passes p.shared t environment (is_placed script t.frames) (case_of config.passes (body_at script t.frames) p.shared t environment true e.alt (next_of script t.frames) t.status (λ known. moves.offered)) plain)
 
     plain_rule : IsProcessRule unread (λ p k. RegistersPlain p.shared) script config (Moves script config)
     unfolding child_of

@@ -1,8 +1,8 @@
 -- A transition keeps what is kept of keys, and that the data of a thread are empty at each place without a key.
-use Rattle.pct_names.proofs.Names.{◌*◌, ◌+◌, ◌<◌, [], ap, arith, Bool, cond, Dest, false, false≢true, Frame, get_or, if_number, inl, inr}
-use Rattle.pct_names.proofs.Names.{is_none, Key, key_at, key_place, key_with, KeyPlace, KeyValues, length, length-replicate, List, list_any}
-use Rattle.pct_names.proofs.Names.{MAX_KEYS, NamedAction, nat_eq, new_keys, next_key, NextStatement, no_keys, no_values, None, none-some}
-use Rattle.pct_names.proofs.Names.{not, Option, option_and_then, option_and_then_some, option_map_or, Others, OwnAction, refl, same_Some}
+use Rattle.pct_names.proofs.Names.{◌*◌, ◌+◌, ◌<◌, [], ap, arith, Bool, cond, Dest, Environment, false, false≢true, Frame, get_or, if_number}
+use Rattle.pct_names.proofs.Names.{inl, inr, is_none, Key, key_at, key_place, key_with, KeyPlace, KeyValues, length, length-replicate, List}
+use Rattle.pct_names.proofs.Names.{list_any, MAX_KEYS, NamedAction, nat_eq, new_keys, next_key, NextStatement, no_keys, no_values, None}
+use Rattle.pct_names.proofs.Names.{none-some, not, Option, option_and_then, option_and_then_some, option_map_or, OwnAction, refl, same_Some}
 use Rattle.pct_names.proofs.Names.{Script, set, shared_after, shared_moved, SharedState, slice_get, Some, statement_at, Status, Stmt, subst}
 use Rattle.pct_names.proofs.Names.{suc, sym, Thread, Transition, true, value_at, value_of, with_key, with_pass, with_value, without_value}
 use Rattle.pct_names.proofs.Names.{zero, ℕ, ◌∙◌, ◌∷◌, ◌≡◌, ◌⊎◌}
@@ -13,7 +13,8 @@ use Rattle.pct_model.specs.declared.transition.OwnAction.TheVariants as own_acti
 use Rattle.pct_model.specs.declared.statement.Stmt.TheVariants as statement
 use Rattle.pct_laws.specs.Kept.{KeysKept, IsLastMade}
 use Rattle.pct_thread_invariants.proofs.lift.OfferedNumbers.{IsNumberOf, new_key_of}
-use Rattle.pct_thread_invariants.proofs.keys.KeyPlaces.{default_set, default_stays, default_of_replicate, item_of_replicate, item_set, place_of_next}
+use Rattle.pct_thread_invariants.proofs.keys.KeyPlaces.{default_set, default_stays, default_of_replicate, item_of_replicate, item_set}
+use Rattle.pct_thread_invariants.proofs.keys.KeyPlaces.{place_of_next}
 use Rattle.pct_transition_cases.proofs.PlacedStatements.{IsPlaced, statement_placed}
 use Rattle.pct_transition_cases.proofs.TransitionCases.{TransitionCase, key_made, key_deleted, specific_set, pass_begun, destructor_called}
 use Rattle.pct_thread_invariants.proofs.thread.NamedFunctions.{NamesFunctions}
@@ -138,21 +139,21 @@ named_key n keys is = is_on_place n (key_at keys (key_place n)) is
 
 -- ---- a transition
 
-module _ (script : Script) (names : NamesFunctions script) (passes : ℕ) (shared : SharedState) (t : Thread) (others : Others) where
+module _ (script : Script) (names : NamesFunctions script) (passes : ℕ) (shared : SharedState) (t : Thread) (environment : Environment) where
   -- the destructor that a statement names
   destructor_of : (frame : Frame) (result key : Dest) (destructor : Option ℕ) → statement_at script frame ≡ Some (statement.KeyCreate result key destructor) → (f : ℕ) → destructor ≡ Some f → f < length script.funcs
   destructor_of frame result key None at f is = absurd (none-some f is)
   destructor_of frame result key (Some g) at f is = subst (λ (n : ℕ). n < length script.funcs) (same_Some g f is) (names.destructor frame result key g at)
 
   -- the keys after a transition
-  pub case_kept : KeysKept script shared.keys → {frames : List Frame} {body : List Stmt} {next : NextStatement} {s : Status} {o : Transition} → IsPlaced script frames body next → TransitionCase passes body shared t others true next s o → KeysKept script (shared_moved o shared).keys
+  pub case_kept : KeysKept script shared.keys → {frames : List Frame} {body : List Stmt} {next : NextStatement} {s : Status} {o : Transition} → IsPlaced script frames body next → TransitionCase passes body shared t environment true next s o → KeysKept script (shared_moved o shared).keys
   unfolding shared_after
   case_kept kept placed (key_made frame result key destructor k among) = made_kept script shared.keys kept k destructor (among refl) (destructor_of frame result key destructor (statement_placed placed))
   case_kept kept placed (key_deleted frame key named) = let place : ℕ = key_place (value_of shared.globals frame key) in deleted_at script shared.keys kept place (slice_get shared.keys place)
   case_kept kept placed _ = kept
 
   -- the data of the thread that acts
-  own_empty : {body : List Stmt} {next : NextStatement} {s : Status} {o : Transition} → TransitionCase passes body shared t others true next s o → (own : KeyValues) → AreEmpty shared.keys own → AreEmpty shared.keys (own_data o.own own)
+  own_empty : {body : List Stmt} {next : NextStatement} {s : Status} {o : Transition} → TransitionCase passes body shared t environment true next s o → (own : KeyValues) → AreEmpty shared.keys own → AreEmpty shared.keys (own_data o.own own)
   own_empty (specific_set frame key v named) own empty place none =
       let k : ℕ = value_of shared.globals frame key in
       let other : place ≡ key_place k → ⊥ = λ same. false≢true (sym (named_key k shared.keys named) ∙ ap (λ (n : ℕ). is_none (key_at shared.keys n)) (sym same) ∙ ap is_none none) in
@@ -164,7 +165,7 @@ module _ (script : Script) (names : NamesFunctions script) (passes : ℕ) (share
   own_empty _ own empty place none = empty place none
 
   -- the data of any thread of the process
-  named_empty : {body : List Stmt} {next : NextStatement} {s : Status} {o : Transition} → TransitionCase passes body shared t others true next s o → (own : KeyValues) → AreEmpty shared.keys own → AreEmpty (shared_moved o shared).keys (named_data o.named own)
+  named_empty : {body : List Stmt} {next : NextStatement} {s : Status} {o : Transition} → TransitionCase passes body shared t environment true next s o → (own : KeyValues) → AreEmpty shared.keys own → AreEmpty (shared_moved o shared).keys (named_data o.named own)
   unfolding shared_after
   named_empty (key_made frame result key destructor k among) own empty place none = empty place (none_made shared.keys (key_place k) k destructor (slice_get shared.keys (key_place k)) place none)
   named_empty (key_deleted frame key named) own empty place none =
@@ -176,6 +177,6 @@ module _ (script : Script) (names : NamesFunctions script) (passes : ℕ) (share
   named_empty _ own empty place none = empty place none
 
   -- the data of a thread that acts, or of another one, after a transition
-  pub empty_after : {body : List Stmt} {next : NextStatement} {s : Status} {o : Transition} → TransitionCase passes body shared t others true next s o → (own : KeyValues) (acts : Bool) → AreEmpty shared.keys own → AreEmpty (shared_moved o shared).keys (named_data o.named (cond acts (own_data o.own own) own))
+  pub empty_after : {body : List Stmt} {next : NextStatement} {s : Status} {o : Transition} → TransitionCase passes body shared t environment true next s o → (own : KeyValues) (acts : Bool) → AreEmpty shared.keys own → AreEmpty (shared_moved o shared).keys (named_data o.named (cond acts (own_data o.own own) own))
   empty_after {o = o} c own true empty = named_empty c (own_data o.own own) (own_empty c own empty)
   empty_after c own false empty = named_empty c own empty

@@ -1,8 +1,8 @@
 -- After every run, what is kept of keys holds of the keys of each process, and the data of its threads are empty at each place without a
 -- key.
-use Rattle.pct_names.proofs.Names.{◌&&◌, ap, body_at, Bool, changed, child_of, cond, cond_some, Config, Entry, false, find, first_process}
-use Rattle.pct_names.proofs.Names.{is_live_thread, is_waiting_on, KeyPlace, List, MAX_KEYS, moved, named_after, NamedAction, nat_eq}
-use Rattle.pct_names.proofs.Names.{next_of, not, Option, Others, others_of, own_after, OwnAction, Process, refl, Script, shared_moved}
+use Rattle.pct_names.proofs.Names.{◌&&◌, ap, body_at, Bool, changed, child_of, cond, cond_some, Config, Entry, Environment, environment_of}
+use Rattle.pct_names.proofs.Names.{false, find, first_process, has_valid_id, is_waiting_on, KeyPlace, List, MAX_KEYS, moved, named_after}
+use Rattle.pct_names.proofs.Names.{NamedAction, nat_eq, next_of, not, Option, own_after, OwnAction, Process, refl, Script, shared_moved}
 use Rattle.pct_names.proofs.Names.{SharedState, Some, subst, sym, Thread, thread_moved, thread_with, Transition, transition_by, true}
 use Rattle.pct_names.proofs.Names.{unblocked, World, ℕ, ◌∙◌, ◌≡◌}
 use Rattle.pct_model.specs.declared.state.Cause.TheVariants as cause
@@ -11,7 +11,7 @@ use Rattle.pct_model.specs.declared.transition.OwnAction.TheVariants as own_acti
 use Rattle.pct_laws.specs.Kept.{KeysKept}
 use Rattle.pct_thread_invariants.proofs.lift.ChangedThreads.{either_keeps, going_on_keeps, changed_shared, other_threads, other_shared}
 use Rattle.pct_thread_invariants.proofs.lift.TakenSteps.{AfterEveryRun}
-use Rattle.pct_thread_invariants.proofs.lift.MadeThreads.{IsLive}
+use Rattle.pct_thread_invariants.proofs.lift.MadeThreads.{HasValidId}
 use Rattle.pct_thread_invariants.proofs.lift.ThreadsAfter.{initial_thread, Moves, mover, each_after}
 use Rattle.pct_thread_invariants.proofs.lift.InheritedThreads.{each_heir}
 use Rattle.pct_thread_invariants.proofs.lift.EveryProcess.{OfEveryProcess, IsProcessRule, unread, every_process_keeps, moves_of_run}
@@ -31,16 +31,16 @@ own_specific _ t = refl
 
 named_specific : (a : Option NamedAction) (t : Thread) → (named_after a t).specific ≡ named_data a t.specific
 unfolding named_after
-named_specific (Some (named_action.EndJoin id)) t = either_keeps (λ (u : Thread). u.specific) (is_live_thread id t) (record t { joined = true }) t t refl refl
-named_specific (Some (named_action.Request id)) t = either_keeps (λ (u : Thread). u.specific) (is_live_thread id t && not t.ended) (record t { pending = true }) t t refl refl
-named_specific (Some (named_action.Detach id)) t = either_keeps (λ (u : Thread). u.specific) (is_live_thread id t) (record t { detached = true }) t t refl refl
-named_specific (Some (named_action.Wake id)) t = either_keeps (λ (u : Thread). u.specific) (is_live_thread id t) (record t { status = unblocked cause.Signalled t.status }) t t refl refl
+named_specific (Some (named_action.EndJoin id)) t = either_keeps (λ (u : Thread). u.specific) (has_valid_id id t) (record t { joined = true }) t t refl refl
+named_specific (Some (named_action.Request id)) t = either_keeps (λ (u : Thread). u.specific) (has_valid_id id t && not t.ended) (record t { pending = true }) t t refl refl
+named_specific (Some (named_action.Detach id)) t = either_keeps (λ (u : Thread). u.specific) (has_valid_id id t) (record t { detached = true }) t t refl refl
+named_specific (Some (named_action.Wake id)) t = either_keeps (λ (u : Thread). u.specific) (has_valid_id id t) (record t { status = unblocked cause.Signalled t.status }) t t refl refl
 named_specific (Some (named_action.WakeAll c)) t = either_keeps (λ (u : Thread). u.specific) (is_waiting_on c t.status) (record t { status = unblocked cause.Broadcast t.status }) t t refl refl
 named_specific _ t = refl
 
 -- the data of a thread after a transition of the one with an id
-pub data_moved : (tid : ℕ) (o : Transition) (t : Thread) → (thread_moved tid o t).specific ≡ named_data o.named (cond (is_live_thread tid t) (own_data o.own t.specific) t.specific)
-data_moved tid o t = named_specific o.named (cond (is_live_thread tid t) (moved o t) t) ∙ ap (named_data o.named) (by_live (is_live_thread tid t))
+pub data_moved : (tid : ℕ) (o : Transition) (t : Thread) → (thread_moved tid o t).specific ≡ named_data o.named (cond (has_valid_id tid t) (own_data o.own t.specific) t.specific)
+data_moved tid o t = named_specific o.named (cond (has_valid_id tid t) (moved o t) t) ∙ ap (named_data o.named) (by_live (has_valid_id tid t))
   where
     by_live : (live : Bool) → (cond live (moved o t) t).specific ≡ cond live (own_data o.own t.specific) t.specific
     by_live true = own_specific o.own _ ∙ ap (own_data o.own) (going_on_keeps (λ (u : Thread). u.specific) (λ t s frames. refl) o.next t)
@@ -57,11 +57,11 @@ module _ (script : Script) (config : Config) (w : World) (p : Process) (e : Entr
   abbrev o : Transition
   o = transition_by script config w p t e.alt
 
-  abbrev others : Others
-  others = others_of config.slots w p t.id
+  abbrev environment : Environment
+  environment = environment_of config.slots w p t.id
 
-  its_case : TransitionCase config.passes (body_at script t.frames) p.shared t others true (next_of script t.frames) t.status o
-  its_case = case_of config.passes (body_at script t.frames) p.shared t others true e.alt (next_of script t.frames) t.status (λ known. moves.offered)
+  its_case : TransitionCase config.passes (body_at script t.frames) p.shared t environment true (next_of script t.frames) t.status o
+  its_case = case_of config.passes (body_at script t.frames) p.shared t environment true e.alt (next_of script t.frames) t.status (λ known. moves.offered)
 
   -- the keys after the transition
   abbrev next : List KeyPlace
@@ -69,11 +69,11 @@ module _ (script : Script) (config : Config) (w : World) (p : Process) (e : Entr
 
   empty_next : (id : ℕ) (w : Thread) → thread_with id (changed e.tid o p) ≡ Some w → AreEmpty next w.specific
   empty_next = each_after script config w p e t moves (λ id w. AreEmpty next w.specific)
-      (λ id u is. subst (AreEmpty next) (sym (data_moved e.tid o u)) (empty_after script (names_functions script) config.passes p.shared t others its_case u.specific (is_live_thread e.tid u) (fits.empty id u is))) (λ id new makes. new_empty next)
+      (λ id u is. subst (AreEmpty next) (sym (data_moved e.tid o u)) (empty_after script (names_functions script) config.passes p.shared t environment its_case u.specific (has_valid_id e.tid u) (fits.empty id u is))) (λ id new makes. new_empty next)
 
   fits_after : KeysFit script (changed e.tid o p)
   fits_after = record {
-    keys = subst (λ (s : SharedState). KeysKept script s.keys) (sym (changed_shared e.tid o p)) (case_kept script (names_functions script) config.passes p.shared t others fits.keys (is_placed script t.frames) its_case);
+    keys = subst (λ (s : SharedState). KeysKept script s.keys) (sym (changed_shared e.tid o p)) (case_kept script (names_functions script) config.passes p.shared t environment fits.keys (is_placed script t.frames) its_case);
     empty = λ id w is. subst (λ (s : SharedState). AreEmpty s.keys w.specific) (sym (changed_shared e.tid o p)) (empty_next id w is);
   }
 
@@ -81,7 +81,7 @@ module _ (script : Script) (config : Config) (w : World) (p : Process) (e : Entr
   born_fits : (new : ℕ) → KeysFit script (child_of e.tid new p)
   unfolding child_of
   born_fits new =
-      let it : IsLive p e.tid t = mover script config w p e t moves in
+      let it : HasValidId p e.tid t = mover script config w p e t moves in
       record {
         keys = fits.keys;
         empty = each_heir e.tid new p t it (λ id x. AreEmpty p.shared.keys x.specific) (λ place none. ((fits.empty e.tid t it.found place none).0, default_of_replicate MAX_KEYS place false)) fits.empty;

@@ -1,6 +1,6 @@
 -- What no transition changes: the numbers of processes and threads, and which threads a process did not inherit. And what no action of
 -- another thread changes: the status of a thread, unless it waits on a condition variable.
-use Rattle.pct_names.proofs.Names.{◌&&◌, ap, as_reaped, at_pc, Bool, Cause, changed, cond, false, Frame, is_live_process, is_live_thread}
+use Rattle.pct_names.proofs.Names.{◌&&◌, ap, as_reaped, at_pc, Bool, Cause, changed, cond, false, Frame, has_valid_id, is_live_process}
 use Rattle.pct_names.proofs.Names.{is_waiting_on, key_place, KeyValues, List, map, moved, named_after, NamedAction, nat_eq, None, not}
 use Rattle.pct_names.proofs.Names.{Option, orphaned, other_process_after, own_after, OwnAction, Process, process_after, process_moved}
 use Rattle.pct_names.proofs.Names.{ProcessAction, ProcessEnd, Reacquire, refl, Running, shared_moved, SharedState, Some, Status, sym}
@@ -40,10 +40,10 @@ same_settled view same s before is = settled_view view same s ∙ ap view is ∙
 -- a view of a thread that does not see what an action may change of a thread that it names, or unblocks
 pub named_keeps : {V : Type 0} (view : Thread → V) → ((t : Thread) (joined pending detached : Bool) (specific : KeyValues) (s : Status) → settled s ≡ settled t.status → view (record t { joined = joined; pending = pending; detached = detached; specific = specific; status = s }) ≡ view t) → (a : Option NamedAction) (t : Thread) → view (named_after a t) ≡ view t
 unfolding named_after
-named_keeps view same (Some (named_action.EndJoin id)) t = either_keeps view (is_live_thread id t) (record t { joined = true }) t t (same t true t.pending t.detached t.specific t.status refl) refl
-named_keeps view same (Some (named_action.Request id)) t = either_keeps view (is_live_thread id t && not t.ended) (record t { pending = true }) t t (same t t.joined true t.detached t.specific t.status refl) refl
-named_keeps view same (Some (named_action.Detach id)) t = either_keeps view (is_live_thread id t) (record t { detached = true }) t t (same t t.joined t.pending true t.specific t.status refl) refl
-named_keeps view same (Some (named_action.Wake id)) t = let s : Status = unblocked cause.Signalled t.status in either_keeps view (is_live_thread id t) (record t { status = s }) t t (same t t.joined t.pending t.detached t.specific s (settled_unblocked cause.Signalled t.status)) refl
+named_keeps view same (Some (named_action.EndJoin id)) t = either_keeps view (has_valid_id id t) (record t { joined = true }) t t (same t true t.pending t.detached t.specific t.status refl) refl
+named_keeps view same (Some (named_action.Request id)) t = either_keeps view (has_valid_id id t && not t.ended) (record t { pending = true }) t t (same t t.joined true t.detached t.specific t.status refl) refl
+named_keeps view same (Some (named_action.Detach id)) t = either_keeps view (has_valid_id id t) (record t { detached = true }) t t (same t t.joined t.pending true t.specific t.status refl) refl
+named_keeps view same (Some (named_action.Wake id)) t = let s : Status = unblocked cause.Signalled t.status in either_keeps view (has_valid_id id t) (record t { status = s }) t t (same t t.joined t.pending t.detached t.specific s (settled_unblocked cause.Signalled t.status)) refl
 named_keeps view same (Some (named_action.WakeAll c)) t = let s : Status = unblocked cause.Broadcast t.status in either_keeps view (is_waiting_on c t.status) (record t { status = s }) t t (same t t.joined t.pending t.detached t.specific s (settled_unblocked cause.Broadcast t.status)) refl
 named_keeps view same (Some (named_action.ForgetKey k)) t = same t t.joined t.pending t.detached (without_value (key_place k) t.specific) t.status refl
 named_keeps view same None t = refl
@@ -74,8 +74,8 @@ identity t = (t.id, t.gone)
 -- a thread after a transition of the one with an id
 pub thread_moved_keeps : (tid : ℕ) (o : Transition) (t : Thread) → identity (thread_moved tid o t) ≡ identity t
 thread_moved_keeps tid o t =
-    named_keeps identity (λ t j p d k s same. refl) o.named (cond (is_live_thread tid t) (moved o t) t)
-    ∙ either_keeps identity (is_live_thread tid t) (moved o t) t t (ap (λ (f : ℕ × Bool × Bool × Bool). (f.0, f.1)) (moved_flags o t)) refl
+    named_keeps identity (λ t j p d k s same. refl) o.named (cond (has_valid_id tid t) (moved o t) t)
+    ∙ either_keeps identity (has_valid_id tid t) (moved o t) t t (ap (λ (f : ℕ × Bool × Bool × Bool). (f.0, f.1)) (moved_flags o t)) refl
 
 -- ---- processes
 

@@ -1,6 +1,6 @@
 -- The process that a fork makes: it inherits its parent as that was before the step.
 use Rattle.pct_names.proofs.Names.{◌&&◌, ◌++◌, [], AllByRecursion, and_from, and_parts, ap, ap₂, Bool, changed, child_of, cond, false}
-use Rattle.pct_names.proofs.Names.{false≢true, Forking, forks_by, holds_slot, in_child, inherited, is_last, is_live_thread, List, list_any}
+use Rattle.pct_names.proofs.Names.{false≢true, Forking, forks_by, has_valid_id, holds_slot, in_child, inherited, is_last, List, list_any}
 use Rattle.pct_names.proofs.Names.{map, moved, named_after, nat_eq, None, none-some, not, or_parts, own_after, Process, process_after, refl}
 use Rattle.pct_names.proofs.Names.{replica_of, same_Some, shared_after, Some, Status, subst, sym, Thread, thread_at, thread_moved}
 use Rattle.pct_names.proofs.Names.{Transition, true, was_reclaimed, with_id, World, ◌||◌, ℕ, ◌∙◌, ◌∷◌, ◌≡◌}
@@ -12,7 +12,7 @@ use Rattle.pct_thread_invariants.proofs.lift.ThreadIds.{ids_of}
 
 -- if a thread is the one with an id, its replica begins in the child phase of a fork with this many registrations
 abbrev ForksIfIt : ℕ → ℕ → Thread → Type 0
-ForksIfIt tid count u = is_live_thread tid u ≡ true → in_child u.status ≡ Forking (record { phase = Child; next = 0; length = count; answer = 0 })
+ForksIfIt tid count u = has_valid_id tid u ≡ true → in_child u.status ≡ Forking (record { phase = Child; next = 0; length = count; answer = 0 })
 
 module _ (tid count new : ℕ) where
   abbrev o : Transition
@@ -21,7 +21,7 @@ module _ (tid count new : ℕ) where
   -- ---- the threads
 
   -- the replica of a thread is the same after the step
-  inherited_by : (u : Thread) (live : Bool) → is_live_thread tid u ≡ live → ForksIfIt tid count u → inherited tid (thread_moved tid o u) ≡ inherited tid u
+  inherited_by : (u : Thread) (live : Bool) → has_valid_id tid u ≡ live → ForksIfIt tid count u → inherited tid (thread_moved tid o u) ≡ inherited tid u
   unfolding forks_by inherited thread_at own_after named_after
   inherited_by u true live forks =
       let after : Thread = moved o u in
@@ -36,7 +36,7 @@ module _ (tid count new : ℕ) where
   -- and so are the threads of the child
   same_threads : (threads : List Thread) → AllByRecursion (ForksIfIt tid count) threads → map (inherited tid) (map (thread_moved tid o) threads ++ []) ≡ map (inherited tid) threads
   same_threads [] fork = refl
-  same_threads (u ∷ threads) fork = ap₂ (λ (x : Thread) (xs : List Thread). x ∷ xs) (inherited_by u (is_live_thread tid u) refl fork.0) (same_threads threads fork.1)
+  same_threads (u ∷ threads) fork = ap₂ (λ (x : Thread) (xs : List Thread). x ∷ xs) (inherited_by u (has_valid_id tid u) refl fork.0) (same_threads threads fork.1)
 
   -- where no thread has the id
   none_forks : (threads : List Thread) → list_any (λ id. nat_eq id tid) (ids_of threads) ≡ false → AllByRecursion (ForksIfIt tid count) threads
@@ -48,9 +48,9 @@ module _ (tid count new : ℕ) where
   -- where no two threads have one id, and the one that has the id is in fork
   one_forks : (t : Thread) → in_child t.status ≡ Forking (record { phase = Child; next = 0; length = count; answer = 0 }) → (threads : List Thread) → AreDistinct (ids_of threads) → with_id tid threads ≡ Some t → AllByRecursion (ForksIfIt tid count) threads
   one_forks t forks [] distinct is = absurd (none-some t is)
-  one_forks t forks (u ∷ threads) distinct is = by_live (is_live_thread tid u) refl (one_forks t forks threads distinct.1) is
+  one_forks t forks (u ∷ threads) distinct is = by_live (has_valid_id tid u) refl (one_forks t forks threads distinct.1) is
     where
-      by_live : (live : Bool) → is_live_thread tid u ≡ live → (with_id tid threads ≡ Some t → AllByRecursion (ForksIfIt tid count) threads) → cond live (Some u) (with_id tid threads) ≡ Some t → AllByRecursion (ForksIfIt tid count) (u ∷ threads)
+      by_live : (live : Bool) → has_valid_id tid u ≡ live → (with_id tid threads ≡ Some t → AllByRecursion (ForksIfIt tid count) threads) → cond live (Some u) (with_id tid threads) ≡ Some t → AllByRecursion (ForksIfIt tid count) (u ∷ threads)
       by_live true live rest first =
           let id : u.id ≡ tid = eqb-true u.id tid (and_parts (nat_eq u.id tid) (holds_slot u) live).0 in
           (λ known. ap (λ (x : Thread). in_child x.status) (same_Some u t first) ∙ forks, none_forks threads (subst (λ (n : ℕ). list_any (λ id. nat_eq id n) (ids_of threads) ≡ false) id distinct.0))
@@ -70,7 +70,7 @@ module _ (tid count new : ℕ) where
       ends_in_true false true = refl
       ends_in_true false false = refl
 
-  ended_by : (u : Thread) (live : Bool) → is_live_thread tid u ≡ live → is_ended_or_it (thread_moved tid o u) ≡ is_ended_or_it u
+  ended_by : (u : Thread) (live : Bool) → has_valid_id tid u ≡ live → is_ended_or_it (thread_moved tid o u) ≡ is_ended_or_it u
   unfolding forks_by thread_at own_after named_after
   ended_by u true live =
       let named : nat_eq u.id tid ≡ true = (and_parts (nat_eq u.id tid) (holds_slot u) live).0 in
@@ -79,7 +79,7 @@ module _ (tid count new : ℕ) where
 
   same_last : (threads : List Thread) → is_last tid (map (thread_moved tid o) threads ++ []) ≡ is_last tid threads
   same_last [] = refl
-  same_last (u ∷ threads) = ap₂ (λ (first rest : Bool). first && rest) (ended_by u (is_live_thread tid u) refl) (same_last threads)
+  same_last (u ∷ threads) = ap₂ (λ (first rest : Bool). first && rest) (ended_by u (has_valid_id tid u) refl) (same_last threads)
 
   -- ---- the process
 

@@ -1,10 +1,10 @@
 -- A relation between a thread and what the events report of it, that each transition keeps where a rule of its process holds, holds of
 -- every thread after every run.
 use Rattle.pct_names.proofs.Names.{◌&&◌, Alt, and_left, ap, Bool, changed, child_of, choices_of, cond, Config, Entry, eqb-false, event_of}
-use Rattle.pct_names.proofs.Names.{false, false≢true, find, ForkAt, Forking, holds_slot, is_live_thread, List, made_process, made_thread}
-use Rattle.pct_names.proofs.Names.{map, moved, named_after, NamedAction, nat_eq, NewThread, None, none-some, offers, Option}
-use Rattle.pct_names.proofs.Names.{option_and_then, Process, refl, replica_of, reverse, Run, same_Some, Script, Some, subst, subst₂, sym}
-use Rattle.pct_names.proofs.Names.{Thread, thread_moved, thread_with, Transition, transition_by, true, World, ℕ, ◌∙◌, ◌≡◌}
+use Rattle.pct_names.proofs.Names.{false, false≢true, find, ForkAt, Forking, has_valid_id, holds_slot, List, made_process, made_thread, map}
+use Rattle.pct_names.proofs.Names.{moved, named_after, NamedAction, nat_eq, NewThread, None, none-some, offers, Option, option_and_then}
+use Rattle.pct_names.proofs.Names.{Process, refl, replica_of, reverse, Run, same_Some, Script, Some, subst, subst₂, sym, Thread}
+use Rattle.pct_names.proofs.Names.{thread_moved, thread_with, Transition, transition_by, true, World, ℕ, ◌∙◌, ◌≡◌}
 use mathlib.Core.Bool.{and-true, and-false}
 use Rattle.std.proofs.Common.{ne_eqb, eqb-true}
 use Rattle.std.proofs.lemmas.Bool.{true≢false}
@@ -93,15 +93,15 @@ module _ {T : Type 0} (g : ThreadReading T) (L : Thread → T → Type 0) where
         own_moved k of =
             let present : t.gone ≡ false = (mover script config w p e t moves).here in
             record {
-              here = λ here. rule.named o.named (cond (is_live_thread e.tid t) (moved o t) t) (after_all g (reverse o.events) k)
-                  (subst (λ b. L (cond b (moved o t) t) (after_all g (reverse o.events) k)) (sym (mover script config w p e t moves).live) (rule.kept w p t k e.alt in_process moves.offered (of.here present)));
+              here = λ here. rule.named o.named (cond (has_valid_id e.tid t) (moved o t) t) (after_all g (reverse o.events) k)
+                  (subst (λ b. L (cond b (moved o t) t) (after_all g (reverse o.events) k)) (sym (mover script config w p e t moves).valid) (rule.kept w p t k e.alt in_process moves.offered (of.here present)));
               gone = λ gone. absurd (true≢false (sym gone ∙ same_gone e.tid o t ∙ present));
             }
 
         -- another thread
-        other_moved : (u : Thread) (k : T) → is_live_thread e.tid u ≡ false → OfMade u k → OfMade (thread_moved e.tid o u) k
+        other_moved : (u : Thread) (k : T) → has_valid_id e.tid u ≡ false → OfMade u k → OfMade (thread_moved e.tid o u) k
         other_moved u k other of = record {
-          here = λ here. rule.named o.named (cond (is_live_thread e.tid u) (moved o u) u) k (subst (λ b. L (cond b (moved o u) u) k) (sym other) (of.here (sym (same_gone e.tid o u) ∙ here)));
+          here = λ here. rule.named o.named (cond (has_valid_id e.tid u) (moved o u) u) k (subst (λ b. L (cond b (moved o u) u) k) (sym other) (of.here (sym (same_gone e.tid o u) ∙ here)));
           gone = λ gone. of.gone (sym (same_gone e.tid o u) ∙ gone);
         }
 

@@ -1,7 +1,7 @@
 -- The processes and threads that were made, after a step.
 use Rattle.pct_names.proofs.Names.{◌&&◌, ◌++◌, [], after_transition, and_left, and_parts, ap, Bool, changed, child_by, child_of, cond}
-use Rattle.pct_names.proofs.Names.{Config, Entry, eqb-false, false, find, find-append, flat_map, forks_by, has_ended, holds_slot}
-use Rattle.pct_names.proofs.Names.{is_ended_status, is_live_process, is_live_thread, List, made_process, map, nat_eq, None, not, not-true}
+use Rattle.pct_names.proofs.Names.{Config, Entry, eqb-false, false, find, find-append, flat_map, forks_by, has_ended, has_valid_id}
+use Rattle.pct_names.proofs.Names.{holds_slot, is_ended_status, is_live_process, List, made_process, map, nat_eq, None, not, not-true}
 use Rattle.pct_names.proofs.Names.{Option, option_map, option_or, other_process_after, Process, process_made, process_moved, Script, Some}
 use Rattle.pct_names.proofs.Names.{sym, Thread, thread_created, thread_moved, thread_with, Transition, transition_by, true, with_id, World}
 use Rattle.pct_names.proofs.Names.{◌||◌, ℕ, ◌∙◌, ◌∷◌, ◌≡◌}
@@ -68,20 +68,20 @@ module _ (pid tid : ℕ) (o : Transition) where
       (item_changed (λ (t : Thread). t.id) (thread_moved tid o) (λ t. ap (λ (i : ℕ × Bool). i.0) (thread_moved_keeps tid o t)) id p.threads)
 
 -- a thread that is found by its id among those that hold a slot
-pub record IsLive (p : Process) (id : ℕ) (t : Thread) : Type 0 where
-  pub live : is_live_thread id t ≡ true
+pub record HasValidId (p : Process) (id : ℕ) (t : Thread) : Type 0 where
+  pub valid : has_valid_id id t ≡ true
   pub found : thread_with id p ≡ Some t
   pub number : t.id ≡ id
   pub holds : holds_slot t ≡ true
   pub here : t.gone ≡ false
 
 -- the thread that is looked up, where no two threads of its process have one id
-pub live_thread : (id : ℕ) (p : Process) (t : Thread) → AreDistinct (ids_of p.threads) → with_id id p.threads ≡ Some t → IsLive p id t
-live_thread id p t distinct is =
-    let live : is_live_thread id t ≡ true = found_passes (is_live_thread id) p.threads t is in
-    let parts = and_parts (nat_eq t.id id) (holds_slot t) live in
+pub with_valid_id : (id : ℕ) (p : Process) (t : Thread) → AreDistinct (ids_of p.threads) → with_id id p.threads ≡ Some t → HasValidId p id t
+with_valid_id id p t distinct is =
+    let valid : has_valid_id id t ≡ true = found_passes (has_valid_id id) p.threads t is in
+    let parts = and_parts (nat_eq t.id id) (holds_slot t) valid in
     record {
-      live = live;
+      valid = valid;
       found = only_one (λ (u : Thread). u.id) holds_slot id p.threads t distinct is;
       number = eqb-true t.id id parts.0;
       holds = parts.1;

@@ -1,8 +1,9 @@
 -- Each step of a run: the thread that makes it is moved by a transition, the events of which are those of the step.
-use Rattle.pct_names.proofs.Names.{[], after_transition, AllByRecursion, and_parts, ap, body_at, Bool, changed, Config, Entry, find, Legal}
-use Rattle.pct_names.proofs.Names.{List, list_all, made_process, made_thread, nat_eq, next_of, Option, option_and_then, option_map}
-use Rattle.pct_names.proofs.Names.{option_or, others_of, Process, process_moved, refl, Run, run, same_Some, Script, Some, subst, sym, Thread}
-use Rattle.pct_names.proofs.Names.{thread_created, thread_moved, thread_with, Transition, transition_by, true, What, World, ◌∙◌, ◌∷◌, ◌≡◌}
+use Rattle.pct_names.proofs.Names.{[], after_transition, AllByRecursion, and_parts, ap, body_at, Bool, changed, Config, Entry}
+use Rattle.pct_names.proofs.Names.{environment_of, find, Legal, List, list_all, made_process, made_thread, nat_eq, next_of, Option}
+use Rattle.pct_names.proofs.Names.{option_and_then, option_map, option_or, Process, process_moved, refl, Run, run, same_Some, Script, Some}
+use Rattle.pct_names.proofs.Names.{subst, sym, Thread, thread_created, thread_moved, thread_with, Transition, transition_by, true, What}
+use Rattle.pct_names.proofs.Names.{World, ◌∙◌, ◌∷◌, ◌≡◌}
 use Rattle.pct_laws.specs.ThreadSteps.{ThreadStep, IsThreadStep, EachStep}
 use Rattle.pct_transition_cases.proofs.CaseOfTransition.{case_of}
 use Rattle.pct_transition_cases.proofs.TransitionCases.{TransitionCase}
@@ -43,8 +44,8 @@ module _ (script : Script) (config : Config) where
 
   -- the transition of a step, by case
   pub case_of_step : (w : World) (p : Process) (e : Entry) (t : Thread) → Moves script config w p e t
-      → TransitionCase config.passes (body_at script t.frames) p.shared t (others_of config.slots w p t.id) true (next_of script t.frames) t.status (transition_by script config w p t e.alt)
-  case_of_step w p e t moves = case_of config.passes (body_at script t.frames) p.shared t (others_of config.slots w p t.id) true e.alt (next_of script t.frames) t.status (λ known. moves.offered)
+      → TransitionCase config.passes (body_at script t.frames) p.shared t (environment_of config.slots w p t.id) true (next_of script t.frames) t.status (transition_by script config w p t e.alt)
+  case_of_step w p e t moves = case_of config.passes (body_at script t.frames) p.shared t (environment_of config.slots w p t.id) true e.alt (next_of script t.frames) t.status (λ known. moves.offered)
 
   module _ (before : List Entry) (r : Run) (is : run script config before ≡ Some r) (e : Entry) (p : Process) (t : Thread) (taken : IsTaken script config r.world e p t) where
     abbrev o : Transition

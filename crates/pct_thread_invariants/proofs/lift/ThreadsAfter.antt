@@ -1,6 +1,6 @@
 -- The threads of a process after a transition of one of them: those that were made before it, and the one that it creates.
 use Rattle.pct_names.proofs.Names.{◌&&◌, ◌<◌, and_left, and_parts, ap, Bool, changed, choices_of, cond, Config, Entry, false}
-use Rattle.pct_names.proofs.Names.{false_from_ne_true, find, holds_slot, is_live_thread, length, main_of, names_of, nat_eq, new_frame}
+use Rattle.pct_names.proofs.Names.{false_from_ne_true, find, has_valid_id, holds_slot, length, main_of, names_of, nat_eq, new_frame}
 use Rattle.pct_names.proofs.Names.{new_thread, NewThread, None, none-some, offers, Option, option_map, option_map_or, option_or, Process}
 use Rattle.pct_names.proofs.Names.{refl, same_Some, Script, Some, subst, sym, Thread, thread_created, thread_moved, thread_with, Transition}
 use Rattle.pct_names.proofs.Names.{transition_by, true, with_id, World, ℕ, ◌∙◌, ◌≡◌, ◌≤◌}
@@ -9,7 +9,7 @@ use Rattle.pct_model.specs.declared.state.FrameKind.TheVariants as kind
 use Rattle.pct_thread_invariants.proofs.lift.KeyedLists.{found_passes, not_found}
 use Rattle.pct_thread_invariants.proofs.lift.ChangedThreads.{thread_moved_keeps}
 use Rattle.pct_thread_invariants.proofs.lift.CreatedThreads.{creates_with_next_id}
-use Rattle.pct_thread_invariants.proofs.lift.MadeThreads.{own_thread_with, IsLive, live_thread}
+use Rattle.pct_thread_invariants.proofs.lift.MadeThreads.{own_thread_with, HasValidId, with_valid_id}
 use Rattle.pct_thread_invariants.proofs.lift.ThreadIds.{HaveIds, is_next_id, is_fresh}
 
 -- the initial thread of a script
@@ -36,11 +36,11 @@ module _ (script : Script) (config : Config) (w : World) (p : Process) (e : Entr
 
     -- ---- the thread that moves
 
-    pub mover : IsLive p e.tid t
-    mover = live_thread e.tid p t moves.ids.distinct moves.is_thread
+    pub mover : HasValidId p e.tid t
+    mover = with_valid_id e.tid p t moves.ids.distinct moves.is_thread
 
     -- a thread that is live with its id is that one
-    pub is_mover : (id : ℕ) (u : Thread) → thread_with id p ≡ Some u → is_live_thread e.tid u ≡ true → (u ≡ t) × (id ≡ e.tid)
+    pub is_mover : (id : ℕ) (u : Thread) → thread_with id p ≡ Some u → has_valid_id e.tid u ≡ true → (u ≡ t) × (id ≡ e.tid)
     is_mover id u is live =
         let named : u.id ≡ id = eqb-true u.id id (found_passes (λ (x : Thread). nat_eq x.id id) p.threads u is) in
         let same : id ≡ e.tid = sym named ∙ eqb-true u.id e.tid (and_parts (nat_eq u.id e.tid) (holds_slot u) live).0 in

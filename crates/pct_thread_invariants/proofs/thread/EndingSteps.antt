@@ -1,9 +1,9 @@
 -- Which transitions let a thread end, and what a thread does that exits its process.
-use Rattle.pct_names.proofs.Names.{[], Alt, ap, body_at, Bool, choices_of, Config, Disable, encode, false, false≢true, Frame}
-use Rattle.pct_names.proofs.Names.{has_begun_to_end, inl, inr, is_ended_status, is_some, List, list_all, moved, next_of, NextStatement}
-use Rattle.pct_names.proofs.Names.{None, not, offers, Option, or_right, Others, others_of, own_after, OwnAction, Process, Reason, refl}
-use Rattle.pct_names.proofs.Names.{reverse, Script, SharedState, Some, Status, Stmt, sym, syntax_of, Thread, thread_at, Transition}
-use Rattle.pct_names.proofs.Names.{transition_by, true, World, ◌||◌, ℕ, ◌∙◌, ◌∷◌, ◌≡◌, ◌⊎◌}
+use Rattle.pct_names.proofs.Names.{[], Alt, ap, body_at, Bool, choices_of, Config, Disable, encode, Environment, environment_of, false}
+use Rattle.pct_names.proofs.Names.{false≢true, Frame, has_begun_to_end, inl, inr, is_ended_status, is_some, List, list_all, moved, next_of}
+use Rattle.pct_names.proofs.Names.{NextStatement, None, not, offers, Option, or_right, own_after, OwnAction, Process, Reason, refl, reverse}
+use Rattle.pct_names.proofs.Names.{Script, SharedState, Some, Status, Stmt, sym, syntax_of, Thread, thread_at, Transition, transition_by}
+use Rattle.pct_names.proofs.Names.{true, World, ◌||◌, ℕ, ◌∙◌, ◌∷◌, ◌≡◌, ◌⊎◌}
 use Rattle.std.proofs.lemmas.Bool.{true≢false}
 use mathlib.Core.Bool.{or-false}
 use Rattle.pct_model.specs.declared.state.FrameKind.TheVariants as kind
@@ -49,9 +49,9 @@ moved_end o never t = action_end o.own never _ ∙ going_on_keeps (λ (u : Threa
 -- ---- transitions
 
 -- the transition ends the thread: it creates no thread, and only the last thread of a process does not get the status of its end
-pub record EndsThread (t : Thread) (others : Others) (o : Transition) : Type 0 where
+pub record EndsThread (t : Thread) (environment : Environment) (o : Transition) : Type 0 where
   pub none : o.created ≡ None
-  pub last : is_ended_status (moved o t).status ≡ false → others.is_last ≡ true
+  pub last : is_ended_status (moved o t).status ≡ false → environment.is_last ≡ true
 
 -- a thread that exits its process, and so may have ended, does not have the status of its end, and its transition ends nothing, creates
 -- nothing and names no thread
@@ -61,9 +61,9 @@ pub record GoesOn (s : Status) (o : Transition) : Type 0 where
   pub none : o.created ≡ None
   pub silent : list_all names_none (reverse o.events) ≡ true
 
-module _ (passes : ℕ) (body : List Stmt) (shared : SharedState) (t : Thread) (others : Others) where
+module _ (passes : ℕ) (body : List Stmt) (shared : SharedState) (t : Thread) (environment : Environment) where
   -- a transition does not end its thread, or is the end of the thread
-  pub ends_only : {next : NextStatement} {s : Status} {o : Transition} → TransitionCase passes body shared t others true next s o → NeverEnds o ⊎ EndsThread t others o
+  pub ends_only : {next : NextStatement} {s : Status} {o : Transition} → TransitionCase passes body shared t environment true next s o → NeverEnds o ⊎ EndsThread t environment o
   unfolding thread_at own_after
   ends_only (thread_ended next no_handlers nothing_due none_left) = inr (record { none = refl; last = λ alive. absurd (true≢false alive) })
   ends_only (thread_ended_with_keys next left no_handlers some limit all none_left) = inr (record { none = refl; last = λ alive. absurd (true≢false alive) })
@@ -73,12 +73,12 @@ module _ (passes : ℕ) (body : List Stmt) (shared : SharedState) (t : Thread) (
 
   -- ---- a thread that exits its process
 
-  case_exiting : {next : NextStatement} {o : Transition} → TransitionCase passes body shared t others true next status.Exiting o → GoesOn status.Exiting o × (list_all is_of_exit (reverse o.events) ≡ true)
+  case_exiting : {next : NextStatement} {o : Transition} → TransitionCase passes body shared t environment true next status.Exiting o → GoesOn status.Exiting o × (list_all is_of_exit (reverse o.events) ≡ true)
   case_exiting (rests next s alive) = (record { alive = refl; never = refl; none = refl; silent = refl }, refl)
   case_exiting _ = (record { alive = refl; never = refl; none = refl; silent = refl }, refl)
 
   -- in a plain function
-  case_plain : {next : NextStatement} {o : Transition} → TransitionCase passes body shared t others true next status.Running o → is_plain_next next ≡ true → GoesOn status.Running o
+  case_plain : {next : NextStatement} {o : Transition} → TransitionCase passes body shared t environment true next status.Running o → is_plain_next next ≡ true → GoesOn status.Running o
   unfolding encode syntax_of
   case_plain (thread_made frame result id f v detached new among) plain = absurd (false≢true plain)
   case_plain (thread_detached frame id target seen joinable alone) plain = absurd (false≢true plain)
@@ -87,7 +87,7 @@ module _ (passes : ℕ) (body : List Stmt) (shared : SharedState) (t : Thread) (
 
   -- its events are those of the exit
   case_of_exit : {body : List Stmt} {script : Script} {frame : Frame} {next : NextStatement} {o : Transition} → IsPlaced script (frame ∷ []) body next → frame.kind ≡ kind.ExitFn → t.state ≡ Disable
-      → TransitionCase passes body shared t others true next status.Running o → (list_all is_of_exit (reverse o.events) || not (is_plain_next next)) ≡ true
+      → TransitionCase passes body shared t environment true next status.Running o → (list_all is_of_exit (reverse o.events) || not (is_plain_next next)) ≡ true
   unfolding encode syntax_of
   case_of_exit (on_top _ _ s at) exits disabled (start_returned _ _ v returns is) = absurd (true≢false (sym (ap is_exit_kind exits) ∙ ap is_exit_kind is))
   case_of_exit (on_top _ _ s at) exits disabled (main_returned _ _ v returns is begun) = absurd (true≢false (sym (ap is_exit_kind exits) ∙ ap is_exit_kind is))
@@ -95,7 +95,7 @@ module _ (passes : ℕ) (body : List Stmt) (shared : SharedState) (t : Thread) (
   case_of_exit place exits disabled _ = refl
 
   -- a thread with the status of its end has no transition
-  case_ended : {next : NextStatement} {v : ℕ} {o : Transition} → TransitionCase passes body shared t others true next (status.Ended v) o → ⊥
+  case_ended : {next : NextStatement} {v : ℕ} {o : Transition} → TransitionCase passes body shared t environment true next (status.Ended v) o → ⊥
   case_ended (rests next s alive) = true≢false (alive refl)
 
   module _ (script : Script) (why : Reason) (handlers : List (ℕ × ℕ)) (reported : ThreadSummary) (disabled : (has_begun_to_end why || reported.exiting) ≡ true → t.state ≡ Disable) where
@@ -103,7 +103,7 @@ module _ (passes : ℕ) (body : List Stmt) (shared : SharedState) (t : Thread) (
     abbrev pub Stands : Status → Transition → Type 0
     Stands s o = ((reported.ended ≡ None) × (reported.exiting ≡ false)) ⊎ ((reported.exiting ≡ true) × GoesOn s o × (list_all is_of_exit (reverse o.events) ≡ true))
 
-    exit_stands : (s : Status) (frames : List Frame) {next : NextStatement} {o : Transition} → RunsExitFunction script s frames reported → IsPlaced script frames body next → TransitionCase passes body shared t others true next s o → Stands s o
+    exit_stands : (s : Status) (frames : List Frame) {next : NextStatement} {o : Transition} → RunsExitFunction script s frames reported → IsPlaced script frames body next → TransitionCase passes body shared t environment true next s o → Stands s o
     exit_stands status.Running (frame ∷ []) {o = o} exits placed c =
         let plain = plain_next script frame [] exits.1 placed in
         let of_exit : (list_all is_of_exit (reverse o.events) || false) ≡ true = ap (λ (b : Bool). list_all is_of_exit (reverse o.events) || not b) (sym plain) ∙ case_of_exit placed exits.0 (disabled (or_right (has_begun_to_end why) reported.exiting exits.2)) c in
@@ -113,7 +113,7 @@ module _ (passes : ℕ) (body : List Stmt) (shared : SharedState) (t : Thread) (
     with_frames : {s : Status} {o : Transition} → (frames : List Frame) → HasFrames script why frames handlers reported → Stands s o
     with_frames frames fits = inl (fits.not_ended, fits.not_exiting)
 
-    status_stands : (s : Status) (frames : List Frame) {next : NextStatement} {o : Transition} → ByStatus script s why frames handlers reported → TransitionCase passes body shared t others true next s o → Stands s o
+    status_stands : (s : Status) (frames : List Frame) {next : NextStatement} {o : Transition} → ByStatus script s why frames handlers reported → TransitionCase passes body shared t environment true next s o → Stands s o
     status_stands status.Running frames fits c = with_frames frames fits
     status_stands (status.AtPoint index) frames fits c = with_frames frames fits.0
     status_stands (status.Joining id) frames fits c = with_frames frames fits.0
@@ -126,16 +126,16 @@ module _ (passes : ℕ) (body : List Stmt) (shared : SharedState) (t : Thread) (
     status_stands (status.Ended v) frames fits c = absurd (case_ended c)
     status_stands status.Exiting frames fits c = let goes = case_exiting c in inr (fits.1, goes.0, goes.1)
 
-    pub any_stands : (s : Status) (frames : List Frame) {next : NextStatement} {o : Transition} → ByAnyStatus script s why frames handlers reported → IsPlaced script frames body next → TransitionCase passes body shared t others true next s o → Stands s o
+    pub any_stands : (s : Status) (frames : List Frame) {next : NextStatement} {o : Transition} → ByAnyStatus script s why frames handlers reported → IsPlaced script frames body next → TransitionCase passes body shared t environment true next s o → Stands s o
     any_stands s frames (inl fits) placed c = status_stands s frames fits c
     any_stands s frames (inr exits) placed c = exit_stands s frames exits placed c
 
 -- how the thread of a transition stands
 pub stands : (script : Script) (config : Config) (w : World) (p : Process) (t : Thread) (reported : ThreadSummary) (choice : Alt) → offers (choices_of script config w p t) choice ≡ true → (fits : FitsAny script config.passes t reported)
-    → Stands config.passes (body_at script t.frames) p.shared t (others_of config.slots w p t.id) script t.reason t.handlers reported fits.agrees.disabled t.status (transition_by script config w p t choice)
+    → Stands config.passes (body_at script t.frames) p.shared t (environment_of config.slots w p t.id) script t.reason t.handlers reported fits.agrees.disabled t.status (transition_by script config w p t choice)
 stands script config w p t reported choice offered fits =
-    any_stands config.passes (body_at script t.frames) p.shared t (others_of config.slots w p t.id) script t.reason t.handlers reported fits.agrees.disabled t.status t.frames fits.by_status (is_placed script t.frames)
-    (case_of config.passes (body_at script t.frames) p.shared t (others_of config.slots w p t.id) true choice (next_of script t.frames) t.status (λ known. offered))
+    any_stands config.passes (body_at script t.frames) p.shared t (environment_of config.slots w p t.id) script t.reason t.handlers reported fits.agrees.disabled t.status t.frames fits.by_status (is_placed script t.frames)
+    (case_of config.passes (body_at script t.frames) p.shared t (environment_of config.slots w p t.id) true choice (next_of script t.frames) t.status (λ known. offered))
 
 -- a thread that has ended goes on to exit its process
 pub goes_on : (script : Script) (config : Config) (w : World) (p : Process) (t : Thread) (reported : ThreadSummary) (choice : Alt) → offers (choices_of script config w p t) choice ≡ true → FitsAny script config.passes t reported → t.ended ≡ true → GoesOn t.status (transition_by script config w p t choice)

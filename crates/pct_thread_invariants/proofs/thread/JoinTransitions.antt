@@ -1,10 +1,10 @@
 -- What each transition does with the threads that it names, by the tables: at most one action names a thread, which holds its slot,
 -- and an event reports it.
 use Rattle.pct_names.proofs.Names.{[], acts_on_request, Alt, begins_join, body_at, Bool, choices_of, Config, creates, Dest, detaches}
-use Rattle.pct_names.proofs.Names.{ends_join, false, false≢true, is_ended_status, is_joined_by_one, List, NamedAction, nat_eq, next_of}
-use Rattle.pct_names.proofs.Names.{NextStatement, not, offers, Option, others_of, OwnAction, Process, refl, requests, Script, SharedState}
-use Rattle.pct_names.proofs.Names.{Some, Status, Stmt, suc, Thread, Transition, transition_by, true, value_of, What, with_id, World, ◌||◌}
-use Rattle.pct_names.proofs.Names.{ℕ, ◌≡◌}
+use Rattle.pct_names.proofs.Names.{ends_join, environment_of, false, false≢true, is_ended_status, is_joined_by_one, List, NamedAction}
+use Rattle.pct_names.proofs.Names.{nat_eq, next_of, NextStatement, not, offers, Option, OwnAction, Process, refl, requests, Script}
+use Rattle.pct_names.proofs.Names.{SharedState, Some, Status, Stmt, suc, Thread, Transition, transition_by, true, value_of, What, with_id}
+use Rattle.pct_names.proofs.Names.{World, ◌||◌, ℕ, ◌≡◌}
 use Rattle.pct_model.specs.declared.event.What.TheVariants as what
 use Rattle.pct_model.specs.declared.state.Status.TheVariants as status
 use Rattle.pct_model.specs.declared.transition.NamedAction.TheVariants as named_action
@@ -84,8 +84,8 @@ pub data Kind (tid : ℕ) (threads : List Thread) (s : Status) : Transition → 
 -- ---- the table
 
 module _ (slots : ℕ) (w : World) (p : Process) (passes : ℕ) (body : List Stmt) (shared : SharedState) (t : Thread) where
-  case_kind : {next : NextStatement} {s : Status} {o : Transition} → TransitionCase passes body shared t (others_of slots w p t.id) false next s o → Kind t.id p.threads s o
-  unfolding others_of creates begins_join ends_join detaches requests acts_on_request
+  case_kind : {next : NextStatement} {s : Status} {o : Transition} → TransitionCase passes body shared t (environment_of slots w p t.id) false next s o → Kind t.id p.threads s o
+  unfolding environment_of creates begins_join ends_join detaches requests acts_on_request
   case_kind (rests next s alive) = quiet (record { own = refl; named = λ id. refl }) (λ joins. refl)
   case_kind (thread_made frame result id f v detached new among) = creates_one (suc frame.pc) result id new f (value_of shared.globals frame v) detached refl
   case_kind (join_begun frame id d target is other joinable alone unasked) = begins (value_of shared.globals frame id) refl (record { target = target; is_target = is; other = other; joinable = joinable; alone = alone })
@@ -96,8 +96,8 @@ module _ (slots : ℕ) (w : World) (p : Process) (passes : ℕ) (body : List Stm
   case_kind _ = quiet (record { own = refl; named = λ id. refl }) (λ joins. absurd (false≢true joins))
 
 -- the case of each transition of a thread of a process
-pub its_case : (script : Script) (config : Config) (w : World) (p : Process) (t : Thread) (choice : Alt) → TransitionCase config.passes (body_at script t.frames) p.shared t (others_of config.slots w p t.id) false (next_of script t.frames) t.status (transition_by script config w p t choice)
-its_case script config w p t choice = case_of config.passes (body_at script t.frames) p.shared t (others_of config.slots w p t.id) false choice (next_of script t.frames) t.status (λ known. absurd (false≢true known))
+pub its_case : (script : Script) (config : Config) (w : World) (p : Process) (t : Thread) (choice : Alt) → TransitionCase config.passes (body_at script t.frames) p.shared t (environment_of config.slots w p t.id) false (next_of script t.frames) t.status (transition_by script config w p t choice)
+its_case script config w p t choice = case_of config.passes (body_at script t.frames) p.shared t (environment_of config.slots w p t.id) false choice (next_of script t.frames) t.status (λ known. absurd (false≢true known))
 
 -- and its kind
 pub kind_of : (script : Script) (config : Config) (w : World) (p : Process) (t : Thread) (choice : Alt) → Kind t.id p.threads t.status (transition_by script config w p t choice)
@@ -107,4 +107,4 @@ kind_of script config w p t choice = case_kind config.slots w p config.passes (b
 
 -- a thread that has a choice does not have the status of its end
 pub moves_alive : (script : Script) (config : Config) (w : World) (p : Process) (t : Thread) (choice : Alt) → offers (choices_of script config w p t) choice ≡ true → is_ended_status t.status ≡ false
-moves_alive script config w p t choice offered = offered_alive (offered_of (body_at script t.frames) p.shared t (others_of config.slots w p t.id) choice (next_of script t.frames) t.status offered)
+moves_alive script config w p t choice offered = offered_alive (offered_of (body_at script t.frames) p.shared t (environment_of config.slots w p t.id) choice (next_of script t.frames) t.status offered)

@@ -1,7 +1,7 @@
 -- The newest event of a thread that is suspended at a generic cancellation point, in pthread_join, in sem_wait or in waitpid is that of the
 -- call.
-use Rattle.pct_names.proofs.Names.{ap, body_at, Called, Config, Event, false, in_child, join_point, List, moved, next_of, NextStatement}
-use Rattle.pct_names.proofs.Names.{None, none-some, Option, Others, others_of, own_after, refl, reverse, Script, sem_wait_point}
+use Rattle.pct_names.proofs.Names.{ap, body_at, Called, Config, Environment, environment_of, Event, false, in_child, join_point, List}
+use Rattle.pct_names.proofs.Names.{moved, next_of, NextStatement, None, none-some, Option, own_after, refl, reverse, Script, sem_wait_point}
 use Rattle.pct_names.proofs.Names.{SharedState, Some, Status, Stmt, sym, Thread, thread_at, Transition, true, waitpid_point, What, ℕ, ◌∙◌}
 use Rattle.pct_names.proofs.Names.{◌≡◌}
 use Rattle.pct_model.specs.declared.state.Status.TheVariants as status
@@ -38,9 +38,9 @@ call_event _ = None
 abbrev NewestIsCall : Thread → Option What → Type 0
 NewestIsCall t k = (w : What) → call_event t.status ≡ Some w → k ≡ Some w
 
-module _ (passes : ℕ) (body : List Stmt) (shared : SharedState) (t : Thread) (others : Others) where
+module _ (passes : ℕ) (body : List Stmt) (shared : SharedState) (t : Thread) (environment : Environment) where
   -- the thread after a transition
-  case_newest : {next : NextStatement} {s : Status} {o : Transition} (k : Option What) → TransitionCase passes body shared t others true next s o → NewestIsCall (record t { status = s }) k
+  case_newest : {next : NextStatement} {s : Status} {o : Transition} (k : Option What) → TransitionCase passes body shared t environment true next s o → NewestIsCall (record t { status = s }) k
       → NewestIsCall (moved o (record t { status = s })) (after_all newest (reverse o.events) k)
   unfolding thread_at own_after
   case_newest k (rests next s alive) newest_is = newest_is
@@ -58,8 +58,8 @@ module _ (script : Script) (config : Config) where
     created = λ w p t k choice new known offered newest_is makes event called. absurd (none-some event called);
     named = λ a t k newest_is w called. newest_is w (sym (named_keeps (λ (u : Thread). call_event u.status) (λ t j p d k s is. same_settled call_event (λ c m why. refl) s t.status is) a t) ∙ called);
     kept = λ w p t k choice known offered newest_is.
-        let others : Others = others_of config.slots w p t.id in
-        case_newest config.passes (body_at script t.frames) p.shared t others k (case_of config.passes (body_at script t.frames) p.shared t others true choice (next_of script t.frames) t.status (λ known. offered)) newest_is;
+        let environment : Environment = environment_of config.slots w p t.id in
+        case_newest config.passes (body_at script t.frames) p.shared t environment k (case_of config.passes (body_at script t.frames) p.shared t environment true choice (next_of script t.frames) t.status (λ known. offered)) newest_is;
     replica = λ w p t k at known forks newest_is event called. absurd (none-some event (sym (ap (λ (s : Status). call_event (in_child s)) forks) ∙ called));
   }
 

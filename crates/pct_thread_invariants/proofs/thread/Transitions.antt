@@ -1,8 +1,8 @@
 -- Each transition of a thread keeps the rule of the thread.
-use Rattle.pct_names.proofs.Names.{[], Alt, and_from, ap, body_at, Bool, choices_of, Config, end_value, false, Frame, inl, inr}
-use Rattle.pct_names.proofs.Names.{is_required, length, List, nat_eq, new_frame, new_thread, NewThread, next_in, next_of, NextStatement}
-use Rattle.pct_names.proofs.Names.{none-some, offers, Operand, Option, Others, others_of, own_after, Parent, point_kind, Prepare, Process}
-use Rattle.pct_names.proofs.Names.{refl, same_Some, Script, SharedState, Some, Status, Stmt, subst, sym, Thread, thread_at, Transition}
+use Rattle.pct_names.proofs.Names.{[], Alt, and_from, ap, body_at, Bool, choices_of, Config, end_value, Environment, environment_of, false}
+use Rattle.pct_names.proofs.Names.{Frame, inl, inr, is_required, length, List, nat_eq, new_frame, new_thread, NewThread, next_in, next_of}
+use Rattle.pct_names.proofs.Names.{NextStatement, none-some, offers, Operand, Option, own_after, Parent, point_kind, Prepare, Process, refl}
+use Rattle.pct_names.proofs.Names.{same_Some, Script, SharedState, Some, Status, Stmt, subst, sym, Thread, thread_at, Transition}
 use Rattle.pct_names.proofs.Names.{transition_by, true, value_of, What, World, ℕ, ◌∙◌, ◌∷◌, ◌≡◌}
 use Rattle.std.proofs.Common.{eq-eqb}
 use Rattle.pct_model.specs.declared.event.Caller.TheVariants as caller
@@ -47,7 +47,7 @@ use Rattle.pct_thread_invariants.proofs.thread.Statements.{new_fits, next_keeps,
 use Rattle.pct_thread_invariants.proofs.thread.Statements.{handler_left_keeps, state_keeps}
 use Rattle.pct_thread_invariants.proofs.thread.ForkHandlers.{fork_handler_keeps, fork_handler_left_keeps}
 
-module _ (script : Script) (passes : ℕ) (matches : PushesMatch script) (names : NamesFunctions script) (shared : SharedState) (kept : KeysKept script shared.keys) (registered : RegistersPlain script shared) (t : Thread) (others : Others) (reported : ThreadSummary) where
+module _ (script : Script) (passes : ℕ) (matches : PushesMatch script) (names : NamesFunctions script) (shared : SharedState) (kept : KeysKept script shared.keys) (registered : RegistersPlain script shared) (t : Thread) (environment : Environment) (reported : ThreadSummary) where
   -- the thread, with a status and frames
   abbrev own : Status → List Frame → Thread
   own s frames = record t { status = s; frames = frames }
@@ -60,7 +60,7 @@ module _ (script : Script) (passes : ℕ) (matches : PushesMatch script) (names 
   first_plain : (f : ℕ) (functions : List ℕ) → shared.exit_functions ≡ f ∷ functions → IsPlainFunction script f
   first_plain f functions is = (subst (ArePlain script) is registered.exit_functions).0
 
-  case_keeps : {frames : List Frame} {body : List Stmt} {next : NextStatement} {s : Status} {o : Transition} → IsPlaced script frames body next → TransitionCase passes body shared (own s frames) others true next s o → Fits script passes (own s frames) reported → KeepsBy script passes (FitsIf script passes (calls_exit_function o.events)) (own s frames) reported o
+  case_keeps : {frames : List Frame} {body : List Stmt} {next : NextStatement} {s : Status} {o : Transition} → IsPlaced script frames body next → TransitionCase passes body shared (own s frames) environment true next s o → Fits script passes (own s frames) reported → KeepsBy script passes (FitsIf script passes (calls_exit_function o.events)) (own s frames) reported o
   unfolding thread_at own_after
   case_keeps {frames} place (rests next s alive) rule = record { own = rule; lawful = refl }
   case_keeps {frames} place (stopped frame s why) rule = record { own = rule; lawful = refl }
@@ -154,7 +154,7 @@ module _ (script : Script) (passes : ℕ) (matches : PushesMatch script) (names 
   any_if false u s fits = in_any script passes u s fits
 
   -- the same of a thread that may run a function registered with atexit
-  rule_keeps : (s : Status) (frames : List Frame) {body : List Stmt} {next : NextStatement} {o : Transition} → IsPlaced script frames body next → TransitionCase passes body shared (own s frames) others true next s o
+  rule_keeps : (s : Status) (frames : List Frame) {body : List Stmt} {next : NextStatement} {o : Transition} → IsPlaced script frames body next → TransitionCase passes body shared (own s frames) environment true next s o
       → FitsAny script passes (own s frames) reported → ByAnyStatus script s t.reason frames t.handlers reported → KeepsAny script passes (own s frames) reported o
   rule_keeps s frames {o = o} place c rule (inl by_status) =
       let keeps = case_keeps place c (record { agrees = rule.agrees; placed = rule.placed; by_status = by_status; in_passes = rule.in_passes }) in
@@ -163,7 +163,7 @@ module _ (script : Script) (passes : ℕ) (matches : PushesMatch script) (names 
   rule_keeps _ _ place c rule (inr exits) = absurd exits
 
   -- a thread that it creates fits no events
-  case_created : {frames : List Frame} {body : List Stmt} {next : NextStatement} {s : Status} {o : Transition} → IsPlaced script frames body next → TransitionCase passes body shared t others true next s o → (new : NewThread) → o.created ≡ Some new → FitsAny script passes (created_thread new) no_events
+  case_created : {frames : List Frame} {body : List Stmt} {next : NextStatement} {s : Status} {o : Transition} → IsPlaced script frames body next → TransitionCase passes body shared t environment true next s o → (new : NewThread) → o.created ≡ Some new → FitsAny script passes (created_thread new) no_events
   case_created place (thread_made frame result id f v detached n among) new is =
       subst (λ (x : NewThread). FitsAny script passes (created_thread x) no_events) (same_Some (record { id = n; detached = detached; func = f; arg = value frame v }) new is) (in_any script passes (new_thread n detached (new_frame f (value frame v) kind.Start)) no_events (new_fits script passes matches n f (value frame v) detached kind.Start (names.created frame result id f v detached (statement_placed place)) (refl, refl)))
   case_created place _ new is = absurd (none-some new is)
@@ -172,12 +172,12 @@ module _ (script : Script) (passes : ℕ) (matches : PushesMatch script) (names 
 pub transition_keeps : (script : Script) → PushesMatch script → NamesFunctions script → (config : Config) (w : World) (p : Process) (t : Thread) (reported : ThreadSummary) (choice : Alt) → KeysKept script p.shared.keys → RegistersPlain script p.shared → offers (choices_of script config w p t) choice ≡ true
     → FitsAny script config.passes t reported → KeepsAny script config.passes t reported (transition_by script config w p t choice)
 transition_keeps script matches names config w p t reported choice kept registered offered rule =
-    let others : Others = others_of config.slots w p t.id in
-    rule_keeps script config.passes matches names p.shared kept registered t others reported t.status t.frames (is_placed script t.frames) (case_of config.passes (body_at script t.frames) p.shared t others true choice (next_of script t.frames) t.status (λ known. offered)) rule rule.by_status
+    let environment : Environment = environment_of config.slots w p t.id in
+    rule_keeps script config.passes matches names p.shared kept registered t environment reported t.status t.frames (is_placed script t.frames) (case_of config.passes (body_at script t.frames) p.shared t environment true choice (next_of script t.frames) t.status (λ known. offered)) rule rule.by_status
 
 -- the thread that it creates
 pub created_fits : (script : Script) → PushesMatch script → NamesFunctions script → (config : Config) (w : World) (p : Process) (t : Thread) (choice : Alt) → KeysKept script p.shared.keys → RegistersPlain script p.shared → offers (choices_of script config w p t) choice ≡ true
     → (new : NewThread) → (transition_by script config w p t choice).created ≡ Some new → FitsAny script config.passes (created_thread new) no_events
 created_fits script matches names config w p t choice kept registered offered =
-    let others : Others = others_of config.slots w p t.id in
-    case_created script config.passes matches names p.shared kept registered t others no_events (is_placed script t.frames) (case_of config.passes (body_at script t.frames) p.shared t others true choice (next_of script t.frames) t.status (λ known. offered))
+    let environment : Environment = environment_of config.slots w p t.id in
+    case_created script config.passes matches names p.shared kept registered t environment no_events (is_placed script t.frames) (case_of config.passes (body_at script t.frames) p.shared t environment true choice (next_of script t.frames) t.status (λ known. offered))

@@ -1,6 +1,6 @@
 use Rattle.pct_names.proofs.Names.{arith, Bool, sym, Thread, ◌∙◌}
 use Rattle.pct_transitions.specs.OtherThreads.{is_waiting_with_another}
-use Rattle.pct_transitions.proofs.OthersRead.{any_found, any_none}
+use Rattle.pct_transitions.proofs.EnvironmentRead.{any_found, any_none}
 use Rattle.pct_transitions.proofs.other_threads.is_another_mutex_used.Goals as goal
 
 pub returns-then-is_another_mutex_used_on : goal.returns-then-is_another_mutex_used_on

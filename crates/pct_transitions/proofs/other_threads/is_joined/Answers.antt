@@ -1,5 +1,5 @@
 use Rattle.pct_names.proofs.Names.{arith, Bool, is_joining, sym, Thread, ◌∙◌}
-use Rattle.pct_transitions.proofs.OthersRead.{any_found, any_none}
+use Rattle.pct_transitions.proofs.EnvironmentRead.{any_found, any_none}
 use Rattle.pct_transitions.proofs.other_threads.is_joined.Goals as goal
 
 pub returns-then-is_joiner_on : goal.returns-then-is_joiner_on

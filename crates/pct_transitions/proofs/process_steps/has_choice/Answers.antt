@@ -1,6 +1,6 @@
 use Rattle.pct_names.proofs.Names.{◌++◌, act_if, ap, body_at, Bool, choices_at, Family, go_if, inl, inr, is_deliverable, is_enabled, length}
 use Rattle.pct_names.proofs.Names.{nat_lt, next_of, not, Script, Status, sym, Thread, ℕ, ◌∙◌, ◌≡◌}
-use Rattle.pct_engine_laws.specs.SeenSteps.{others_in, is_ready_in}
+use Rattle.pct_engine_laws.specs.SeenSteps.{environment_in, is_ready_in}
 use Rattle.pct_process.specs.FamilyViews.{other_processes}
 use Rattle.pct_process.specs.ProcessViews.{ProcessData}
 use Rattle.pct_transition_cases.proofs.EnabledChoices.{ending_enabled}
@@ -9,7 +9,7 @@ use Rattle.pct_transitions.proofs.process_steps.has_choice.Goals as goal
 
 -- whether the thread has a choice, where this is its status
 abbrev with_status : Script → ProcessData → Family → Thread → Status → Bool
-with_status script d family t s = is_enabled (choices_at (body_at script t.frames) d.shared t (others_in (length d.slots) family d.slots t.id) (next_of script t.frames) s)
+with_status script d family t s = is_enabled (choices_at (body_at script t.frames) d.shared t (environment_in (length d.slots) family d.slots t.id) (next_of script t.frames) s)
 
 -- the status of the record decides
 by_status : (script : Script) (d : ProcessData) (family : Family) (t : Thread) (kept s : Status) → kept ≡ s → kept ≡ t.status → with_status script d family t s ≡ is_ready_in script (length d.slots) family (with_data d) t
@@ -25,7 +25,7 @@ returns-in-Running c = λ t at.
     let script = c.args.around.program.now.script in
     let family = other_processes c.args.around.family in
     let is = c.record_of-thread.ensures t at in
-    c.runs_on.ensures (body_at script t.frames) t (others_in (length d.slots) family d.slots t.id) at is.cancel_is
+    c.runs_on.ensures (body_at script t.frames) t (environment_in (length d.slots) family d.slots t.id) at is.cancel_is
     ∙ by_status script d family t c.record_of-thread.result.now.status _ c.in-Running.is is.status_is
 
 pub returns-in-Waiting : goal.returns-in-Waiting
@@ -41,7 +41,7 @@ returns-in-Reacquire c = λ t at.
     let script = c.args.around.program.now.script in
     let family = other_processes c.args.around.family in
     let is = c.record_of-thread.ensures t at in
-    c.reacquires_or_acts.ensures (body_at script t.frames) t (others_in (length d.slots) family d.slots t.id) (next_of script t.frames) c.in-Reacquire.field-0 is.cancel_is
+    c.reacquires_or_acts.ensures (body_at script t.frames) t (environment_in (length d.slots) family d.slots t.id) (next_of script t.frames) c.in-Reacquire.field-0 is.cancel_is
     ∙ by_status script d family t c.record_of-thread.result.now.status _ c.in-Reacquire.is is.status_is
 
 pub returns-in-AtPoint : goal.returns-in-AtPoint
@@ -49,7 +49,7 @@ unfolding choices_at
 returns-in-AtPoint c = λ t at.
     let is = c.record_of-thread.ensures t at in
     c.goes_or_acts-in-AtPoint.ensures t is.cancel_is
-    ∙ goes t _ _ c.may_return.ensures
+    ∙ goes t _ _ c.may_pass_point.ensures
     ∙ by_status c.args.around.program.now.script c.args.process.now (other_processes c.args.around.family) t c.record_of-thread.result.now.status _ c.in-AtPoint.is is.status_is
 
 pub returns-in-Joining : goal.returns-in-Joining
@@ -70,7 +70,7 @@ returns-in-InSem c = λ t at.
     ∙ by_status c.args.around.program.now.script c.args.process.now (other_processes c.args.around.family) t c.record_of-thread.result.now.status _ c.in-InSem.is is.status_is
 
 pub returns-in-InWaitPid : goal.returns-in-InWaitPid
-unfolding choices_at others_in
+unfolding choices_at environment_in
 returns-in-InWaitPid c = λ t at.
     let is = c.record_of-thread.ensures t at in
     c.goes_or_acts-in-InWaitPid.ensures t is.cancel_is
@@ -86,7 +86,7 @@ returns-in-Ending c = λ t at.
     let status = (c.record_of-thread.ensures t at).status_is in
     elim c.in-Ending.is [
       | inl ending ↦
-          sym (ending_enabled (body_at script t.frames) d.shared t (others_in (length d.slots) family d.slots t.id) t.handlers)
+          sym (ending_enabled (body_at script t.frames) d.shared t (environment_in (length d.slots) family d.slots t.id) t.handlers)
           ∙ by_status script d family t c.record_of-thread.result.now.status _ ending status
       | inr (inl (fork, forking)) ↦ by_status script d family t c.record_of-thread.result.now.status _ forking status
       | inr (inr exiting) ↦ by_status script d family t c.record_of-thread.result.now.status _ exiting status

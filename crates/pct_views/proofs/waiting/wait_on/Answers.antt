@@ -1,6 +1,6 @@
 use Rattle.pct_names.proofs.Names.{ap, Bool, cond, Family, inl, inr, length, nat_lt, next_of, NextStatement, None, Option, Script, Some}
 use Rattle.pct_names.proofs.Names.{Status, sym, Thread, ◌∙◌, ◌≡◌}
-use Rattle.pct_engine_laws.specs.SeenSteps.{choices_in, others_in}
+use Rattle.pct_engine_laws.specs.SeenSteps.{choices_in, environment_in}
 use Rattle.pct_process.specs.FamilyViews.{other_processes}
 use Rattle.pct_process.specs.ProcessViews.{ProcessData}
 use Rattle.pct_transitions.specs.ProcessSteps.{with_data}
@@ -12,7 +12,7 @@ use Rattle.pct_views.proofs.waiting.wait_on.Goals as goal
 
 -- what the thread waits for, where this is its status
 abbrev with_status : Script → ProcessData → Family → Thread → Status → Option Wait
-with_status script d family t s = wait_by d.shared (others_in (length d.slots) family d.slots t.id) (choices_in script (length d.slots) family (with_data d) t) (next_of script t.frames) s
+with_status script d family t s = wait_by d.shared (environment_in (length d.slots) family d.slots t.id) (choices_in script (length d.slots) family (with_data d) t) (next_of script t.frames) s
 
 -- the status of the record decides
 by_status : (script : Script) (d : ProcessData) (family : Family) (t : Thread) (kept s : Status) → kept ≡ s → kept ≡ t.status → with_status script d family t s ≡ with_status script d family t t.status
@@ -28,7 +28,7 @@ returns-then-has_choice c = λ t at.
     let d = c.args.state.now in
     let script = c.args.around.program.now.script in
     let family = other_processes c.args.around.family in
-    let waits : Option Wait = wait_at d.shared (others_in (length d.slots) family d.slots t.id) (next_of script t.frames) in
+    let waits : Option Wait = wait_at d.shared (environment_in (length d.slots) family d.slots t.id) (next_of script t.frames) in
     ap (λ (ready : Bool). cond ready None waits) (sym c.if-has_choice.true ∙ c.has_choice.ensures t at)
     ∙ by_status script d family t c.record_of.result.now.status _ c.in-Running.is (c.record_of.ensures t at).status_is
 
@@ -38,17 +38,17 @@ returns-else-has_choice c = λ t at.
     let d = c.args.state.now in
     let script = c.args.around.program.now.script in
     let family = other_processes c.args.around.family in
-    let others = others_in (length d.slots) family d.slots t.id in
-    c.wait_at.ensures others
-    ∙ ap (λ (next : NextStatement). wait_at d.shared others next) (c.next_on.ensures t at)
-    ∙ ap (λ (ready : Bool). cond ready None (wait_at d.shared others (next_of script t.frames))) (sym c.if-has_choice.false ∙ c.has_choice.ensures t at)
+    let environment = environment_in (length d.slots) family d.slots t.id in
+    c.wait_at.ensures environment
+    ∙ ap (λ (next : NextStatement). wait_at d.shared environment next) (c.next_on.ensures t at)
+    ∙ ap (λ (ready : Bool). cond ready None (wait_at d.shared environment (next_of script t.frames))) (sym c.if-has_choice.false ∙ c.has_choice.ensures t at)
     ∙ by_status script d family t c.record_of.result.now.status _ c.in-Running.is (c.record_of.ensures t at).status_is
 
 pub returns-in-AtPoint : goal.returns-in-AtPoint
 unfolding wait_by wait_in
 returns-in-AtPoint c = λ t at.
     c.wait_unless.ensures
-    ∙ over_if wait.Signal _ _ c.may_return.ensures
+    ∙ over_if wait.Signal _ _ c.may_pass_point.ensures
     ∙ by_status c.args.around.program.now.script c.args.state.now (other_processes c.args.around.family) t c.record_of.result.now.status _ c.in-AtPoint.is (c.record_of.ensures t at).status_is
 
 pub returns-in-Joining : goal.returns-in-Joining
@@ -67,7 +67,7 @@ returns-in-InSem c = λ t at.
     ∙ by_status c.args.around.program.now.script c.args.state.now (other_processes c.args.around.family) t c.record_of.result.now.status _ c.in-InSem.is (c.record_of.ensures t at).status_is
 
 pub returns-in-InWaitPid : goal.returns-in-InWaitPid
-unfolding wait_by wait_in others_in
+unfolding wait_by wait_in environment_in
 returns-in-InWaitPid c = λ t at.
     let w : Wait = wait.Process c.in-InWaitPid.pid in
     c.wait_unless-in-InWaitPid.ensures
@@ -85,7 +85,7 @@ unfolding wait_by wait_in
 returns-in-Reacquire c = λ t at.
     let d = c.args.state.now in
     let family = other_processes c.args.around.family in
-    c.mutex_wait.ensures (others_in (length d.slots) family d.slots t.id)
+    c.mutex_wait.ensures (environment_in (length d.slots) family d.slots t.id)
     ∙ by_status c.args.around.program.now.script d family t c.record_of.result.now.status _ c.in-Reacquire.is (c.record_of.ensures t at).status_is
 
 pub returns-in-Ending : goal.returns-in-Ending

@@ -1,5 +1,5 @@
 use Rattle.pct_names.proofs.Names.{◌∙◌}
-use Rattle.pct_transitions.proofs.OthersRead.{joins_read}
+use Rattle.pct_transitions.proofs.EnvironmentRead.{joins_read}
 use Rattle.pct_transitions.proofs.context.Context.another_joins.Goals as goal
 
 pub returns : goal.returns

@@ -1,5 +1,5 @@
 use Rattle.pct_names.proofs.Names.{ap, None, option_map, Thread, ◌∙◌}
-use Rattle.pct_transitions.proofs.OthersRead.{is_detached, named_read}
+use Rattle.pct_transitions.proofs.EnvironmentRead.{is_detached, named_read}
 use Rattle.pct_transitions.proofs.context.Context.detached.Goals as goal
 
 pub returns-in_err-slot : goal.returns-in_err-slot

@@ -1,5 +1,5 @@
 use Rattle.pct_names.proofs.Names.{ap, exit_value_of, None, option_and_then, Thread, ◌∙◌}
-use Rattle.pct_transitions.proofs.OthersRead.{has_ended, named_read}
+use Rattle.pct_transitions.proofs.EnvironmentRead.{has_ended, named_read}
 use Rattle.pct_transitions.proofs.context.Context.exit_value_with.Goals as goal
 
 pub returns-in_err-slot : goal.returns-in_err-slot

@@ -1,6 +1,6 @@
 use Rattle.pct_names.proofs.Names.{◌<◌, All, ap, length, List, map, subst, sym, ℕ, ◌∙◌}
 use Rattle.pct_threads.specs.Tables.{next_id_at}
-use Rattle.pct_transitions.proofs.OthersRead.{new_ids_read, free_within}
+use Rattle.pct_transitions.proofs.EnvironmentRead.{new_ids_read, free_within}
 use Rattle.pct_transitions.proofs.context.Context.free_slots.Goals as goal
 
 pub returns-clause-ids : goal.returns-clause-ids

@@ -1,5 +1,5 @@
 use Rattle.pct_names.proofs.Names.{◌∙◌}
-use Rattle.pct_transitions.proofs.OthersRead.{is_last_read}
+use Rattle.pct_transitions.proofs.EnvironmentRead.{is_last_read}
 use Rattle.pct_transitions.proofs.context.Context.is_last.Goals as goal
 
 pub returns : goal.returns

@@ -1,8 +1,8 @@
 -- What is read of the table of threads is what a thread sees of the others.
-use Rattle.pct_names.proofs.Names.{◌*◌, ◌+◌, ◌++◌, ◌<◌, [], All, ap, arith, Bool, cases_lt, cond, drop, drop_all, drop_more, exit_value_of}
-use Rattle.pct_names.proofs.Names.{exit_value_with, false, false≢true, Family, filter, filter_passes, inl, inr, is_joining, is_none}
-use Rattle.pct_names.proofs.Names.{is_some, KeyValues, length, List, list_all, list_any, list_any-append, list_any_at, map, None, none-some}
-use Rattle.pct_names.proofs.Names.{not, Option, option_and_then, option_map, option_map_or, Others, range_with_len, refl, same_Some}
+use Rattle.pct_names.proofs.Names.{◌*◌, ◌+◌, ◌++◌, ◌<◌, [], All, ap, arith, Bool, cases_lt, cond, drop, drop_all, drop_more, Environment}
+use Rattle.pct_names.proofs.Names.{exit_value_of, exit_value_with, false, false≢true, Family, filter, filter_passes, inl, inr, is_joining}
+use Rattle.pct_names.proofs.Names.{is_none, is_some, KeyValues, length, List, list_all, list_any, list_any-append, list_any_at, map, None}
+use Rattle.pct_names.proofs.Names.{none-some, not, Option, option_and_then, option_map, option_map_or, range_with_len, refl, same_Some}
 use Rattle.pct_names.proofs.Names.{slice_get-get_or, slice_get_past, Some, suc, sym, take, take_all, Thread, true, unwrap_or, zero, ◌||◌, ℕ}
 use Rattle.pct_names.proofs.Names.{◌∙◌, ◌∷◌, ◌≡◌, ◌≤◌}
 use Rattle.std.proofs.Math.Bool.{or-false}
@@ -14,7 +14,7 @@ use Rattle.pct_threads.specs.Tables.{slot_at, slot_named, held_at, place_at, thr
 use Rattle.pct_threads.proofs.TableLemmas.{within-free}
 use Rattle.pct_keys.specs.Tables.{Table, row_at}
 use Rattle.pct_engine_laws.specs.Seen.{SeenSlot, threads_on}
-use Rattle.pct_engine_laws.specs.SeenSteps.{is_empty, new_id_on, new_ids_from, others_in}
+use Rattle.pct_engine_laws.specs.SeenSteps.{is_empty, new_id_on, new_ids_from, environment_in}
 use Rattle.pct_process.specs.ThreadViews.{thread_of, threads_of, slot_view, with_specific, has_no_other}
 use Rattle.pct_process.specs.ProcessViews.{slots_of, thread_on_slot, with_rows}
 use Rattle.pct_process.proofs.ViewedSlots.{own, length-slots_of, thread_on_slot-is, thread_with-is}
@@ -127,43 +127,43 @@ module _ (keys : Table) (k : ℕ) where
   ended_here None kept is = absurd (none-some kept is)
   ended_here (Some h) kept is = sym (ap (λ (r : Kept). exit_value_of r.status) (same_Some h.thread kept is))
 
-module _ (keys : Table) (threads : List Slot) (fit : length keys.rows ≡ length threads) (tid : ℕ) (family : Family) (others : Others) (sees : others ≡ others_in (length (slots_of keys.rows threads)) family (slots_of keys.rows threads) tid) where
+module _ (keys : Table) (threads : List Slot) (fit : length keys.rows ≡ length threads) (tid : ℕ) (family : Family) (environment : Environment) (sees : environment ≡ environment_in (length (slots_of keys.rows threads)) family (slots_of keys.rows threads) tid) where
   -- the thread with an id is that on the slot that the id names
   module _ (id : ℕ) (some : 1 ≤ length threads) where
-    pub named_read : (found : Option ℕ) → found ≡ slot_named id threads → option_and_then (thread_on_slot (slots_of keys.rows threads)) found ≡ others.named id
-    unfolding others_in
-    named_read found is = sym (ap (λ (o : Others). o.named id) sees ∙ thread_with-is keys threads fit id found is some)
+    pub named_read : (found : Option ℕ) → found ≡ slot_named id threads → option_and_then (thread_on_slot (slots_of keys.rows threads)) found ≡ environment.named id
+    unfolding environment_in
+    named_read found is = sym (ap (λ (o : Environment). o.named id) sees ∙ thread_with-is keys threads fit id found is some)
 
     module _ (k : ℕ) (at : Some k ≡ slot_named id threads) where
-      there : option_map (own keys threads fit k) (held_at threads k) ≡ others.named id
+      there : option_map (own keys threads fit k) (held_at threads k) ≡ environment.named id
       there = sym (thread_on_slot-is keys threads fit k) ∙ named_read (Some k) at
 
-      pub is_detached : (place : Place) → place_at threads k ≡ Some place → Some place.detached ≡ option_map (λ t. t.detached) (others.named id)
+      pub is_detached : (place : Place) → place_at threads k ≡ Some place → Some place.detached ≡ option_map (λ t. t.detached) (environment.named id)
       is_detached place here = detached_here keys k (held_at threads k) place here ∙ ap (option_map (λ (t : Thread). t.detached)) there
 
-      pub has_ended : (kept : Kept) → thread_at threads k ≡ Some kept → exit_value_of kept.status ≡ exit_value_with id others
+      pub has_ended : (kept : Kept) → thread_at threads k ≡ Some kept → exit_value_of kept.status ≡ exit_value_with id environment
       has_ended kept here = ended_here keys k (held_at threads k) kept here ∙ ap (option_and_then (λ t. exit_value_of t.status)) there
 
   -- a thread joins the one with an id
-  pub joins_read : (id : ℕ) → list_any (λ s. any_on (λ t. is_joining id t.status) s.here) threads ≡ others.another_joins id
-  unfolding others_in
-  joins_read id = any_slot (λ t. is_joining id t.status) (λ own t. refl) keys.rows threads fit ∙ ap (λ (o : Others). o.another_joins id) (sym sees)
+  pub joins_read : (id : ℕ) → list_any (λ s. any_on (λ t. is_joining id t.status) s.here) threads ≡ environment.another_joins id
+  unfolding environment_in
+  joins_read id = any_slot (λ t. is_joining id t.status) (λ own t. refl) keys.rows threads fit ∙ ap (λ (o : Environment). o.another_joins id) (sym sees)
 
   -- each other thread has ended
-  pub is_last_read : list_all (λ s. has_no_other tid s.here) threads ≡ others.is_last
-  unfolding others_in
-  is_last_read = last_read tid keys.rows threads fit ∙ ap (λ (o : Others). o.is_last) (sym sees)
+  pub is_last_read : list_all (λ s. has_no_other tid s.here) threads ≡ environment.is_last
+  unfolding environment_in
+  is_last_read = last_read tid keys.rows threads fit ∙ ap (λ (o : Environment). o.is_last) (sym sees)
 
   -- the ids of the next threads on the free slots
-  pub new_ids_read : length threads ≤ 64 → map (next_id_at threads) (slots_where (is_free_at threads)) ≡ others.new_ids
-  unfolding slots_where others_in
+  pub new_ids_read : length threads ≤ 64 → map (next_id_at threads) (slots_where (is_free_at threads)) ≡ environment.new_ids
+  unfolding slots_where environment_in
   new_ids_read few =
       ids_from threads 0 64 few
       ∙ ids_on_rows (length threads) 0 keys.rows (map slot_view threads)
       ∙ ap (λ (n : ℕ). new_ids_from n 0 (slots_of keys.rows threads)) (sym (length-slots_of keys threads fit))
-      ∙ ap (λ (o : Others). o.new_ids) (sym sees)
+      ∙ ap (λ (o : Environment). o.new_ids) (sym sees)
 
 -- the other processes are those of the family
-pub family_read : (slots : ℕ) (family : Family) (rows : List SeenSlot) (tid : ℕ) (others : Others) → others ≡ others_in slots family rows tid → others.family ≡ family
-unfolding others_in
-family_read slots family rows tid others sees = ap (λ (o : Others). o.family) sees
+pub family_read : (slots : ℕ) (family : Family) (rows : List SeenSlot) (tid : ℕ) (environment : Environment) → environment ≡ environment_in slots family rows tid → environment.family ≡ family
+unfolding environment_in
+family_read slots family rows tid environment sees = ap (λ (o : Environment). o.family) sees

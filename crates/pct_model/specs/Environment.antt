@@ -9,15 +9,16 @@ use Rattle.pct_model.specs.OtherProcesses.{Family, family_of}
 use Rattle.pct_model.specs.World.{Thread, Process, World}
 use Rattle.pct_model.specs.ThreadSlots.{holds_slot, free_ids, by_slot, with_id}
 
--- ---- what a thread sees of the others
+-- ---- the environment of a thread
 
 -- a thread that waits on a condition variable: its id, and the index of the mutex that it released
 pub record Waiter : Type 0 where
   pub id : ℕ
   pub mutex : ℕ
 
--- the threads of a process, as one of them sees them, itself included; and the other processes
-pub record Others : Type 0 where
+-- what the next step of a thread depends on beside the thread itself and what the threads share: the threads of its process, as it sees
+-- them, itself included; and the other processes
+pub record Environment : Type 0 where
   -- the thread with an id, if the lifetime of the id is not over (XSH 2.9.2)
   pub named : ℕ → Option Thread
   -- a thread is suspended in pthread_join for this id
@@ -32,12 +33,12 @@ pub record Others : Type 0 where
   pub family : Family
 
 -- no thread has the id, or the lifetime of the id is over (XSH 2.9.2)
-abbrev pub no_live_thread : ℕ → Others → Bool
-no_live_thread id others = is_none (others.named id)
+abbrev pub names_no_thread : ℕ → Environment → Bool
+names_no_thread id environment = is_none (environment.named id)
 
 -- the thread with the id is detached
-abbrev pub is_detached_thread : ℕ → Others → Bool
-is_detached_thread id others = option_map_or (λ t. t.detached) (others.named id) false
+abbrev pub is_detached_thread : ℕ → Environment → Bool
+is_detached_thread id environment = option_map_or (λ t. t.detached) (environment.named id) false
 
 -- the exit value of a thread with this status, once it has ended
 abbrev pub exit_value_of : Status → Option ℕ
@@ -45,16 +46,16 @@ exit_value_of (status.Ended v) = Some v
 exit_value_of _ = None
 
 -- the exit value of the thread with the id, once it has ended
-abbrev pub exit_value_with : ℕ → Others → Option ℕ
-exit_value_with id others = option_and_then (λ t. exit_value_of t.status) (others.named id)
+abbrev pub exit_value_with : ℕ → Environment → Option ℕ
+exit_value_with id environment = option_and_then (λ t. exit_value_of t.status) (environment.named id)
 
 -- the thread with the id has ended
-abbrev pub is_ended_thread : ℕ → Others → Bool
-is_ended_thread id others = is_some (exit_value_with id others)
+abbrev pub is_ended_thread : ℕ → Environment → Bool
+is_ended_thread id environment = is_some (exit_value_with id environment)
 
 -- a thread waits on condition variable c with another mutex than m
-abbrev pub waits_with_another_mutex : ℕ → ℕ → Others → Bool
-waits_with_another_mutex c m others = list_any (λ waiter. not (nat_eq waiter.mutex m)) (others.waiters c)
+abbrev pub waits_with_another_mutex : ℕ → ℕ → Environment → Bool
+waits_with_another_mutex c m environment = list_any (λ waiter. not (nat_eq waiter.mutex m)) (environment.waiters c)
 
 -- ---- of a process
 
@@ -82,8 +83,8 @@ abbrev pub is_last : ℕ → List Thread → Bool
 is_last id threads = list_all (λ t. not (holds_slot t) || (t.ended || nat_eq t.id id)) threads
 
 -- what the thread with an id of a process with a number of slots sees of the others
-unfoldable pub others_of : ℕ → World → Process → ℕ → Others
-others_of slots w p tid = record {
+unfoldable pub environment_of : ℕ → World → Process → ℕ → Environment
+environment_of slots w p tid = record {
   named = λ id. with_id id p.threads;
   another_joins = λ id. is_joined_by_one id p.threads;
   new_ids = free_ids slots p.threads;
