@@ -83,7 +83,7 @@ both_same m n = and_from (nat_eq m m) (nat_eq n n) (same m) (same n)
 acquires_it : (m : ℕ) (w : What) → list_any (acquires m) (what.Acquired m ∷ w ∷ []) ≡ true
 acquires_it m w = or_left (nat_eq m m) _ (same m)
 
-leaves_it : (c m : ℕ) (s : Status) (events : List What) → is_in_wait c m s ≡ true → is_in_wait c m s && list_any (CondLaw.leaves_wait c) (what.WaitCanceled c ∷ events) ≡ true
+leaves_it : (c m : ℕ) (s : Status) (events : List What) → is_in_wait c m s ≡ true → is_in_wait c m s && list_any (CondLaw.cancels_wait_on c) (what.WaitCanceled c ∷ events) ≡ true
 leaves_it c m s events waits = and_from (is_in_wait c m s) _ waits (or_left (nat_eq c c) _ (same c))
 
 unchanged : (next : NextStatement) (s : Status) → (in_a_wait s ≡ true → ⊥) → may_become next [] s s ≡ true

@@ -92,6 +92,6 @@ module _ (script : Script) (config : Config) where
   pub frame_law : (entries : List Entry) → FrameLaw script config entries
   frame_law entries = record {
     frames = each_step script config (MovesFrames script) frames_of_run entries;
-    environment = each_step script config KeepsOtherFrames (others_of_run script config) entries;
+    others = each_step script config KeepsOtherFrames (others_of_run script config) entries;
     handlers = each_step script config StaysInHandler (stays_of_run script config) entries;
   }
