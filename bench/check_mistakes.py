@@ -170,6 +170,19 @@ SCHEDULES = [
         "Mend:",
     ),
     schedule(
+        "a format that there is not", "bad_header", 5, "%%\nschedule 3 100 4 64\nend 0\n", "    schedule 3 100 4 64\n",
+        "or for the format", "or 'schedule 2 BUDGET PASSES SLOTS' for a script with timed waits",
+    ),
+    schedule(
+        "expire under format 1", "bad_entry", 6, HEADER + "1 1 1 expire\nend 1\n", "    1 1 1 expire\n",
+        "'expire' under the header 'schedule 1'", "under the header 'schedule 2' also 'expire'",
+    ),
+    Case(
+        "a time that expires in no wait", "./pct replay a.replay", 7, "refused entry 1\n",
+        ["a.replay:6: entry 1 is not legal\n", "    1 1 1 expire\n", "'expire' in a timed wait that nothing else has ended", SHOWN],
+        {"a.replay": SMALLEST + "%%\nschedule 2 100 4 64\n1 1 1 expire\nend 1\n"},
+    ),
+    schedule(
         "more entries than the budget", "too_many", 7, "%%\nschedule 1 1 4 64\n1 1 1 go\n1 1 1 go\nend 2\n",
         "    1 1 1 go\n", "a BUDGET below the number of entries", "make the BUDGET",
     ),

@@ -21,6 +21,10 @@ SHOWN, LEGAL = "pct: './pct choices ", "' shows what is legal there\n"
 FILES = {"a.pct": SMALLEST, "seven.pct": SEVEN, "report": REPORT, "begun": BEGUN}
 
 
+# The report of a run of SMALLEST under a schedule of format 2.
+TWO = REPORT.replace("report 1", "report 2").replace("schedule 1", "schedule 2")
+
+
 def given(name, command, status, stdout, says=(), **files):
     """A case with the files of FILES and these."""
     return Case(name, command, status, stdout, list(says), {**FILES, **files})
@@ -42,6 +46,9 @@ REPORTS = [
     given("the report with CR LF", "./pct replay a.replay", 0, REPORT, **{"a.replay": SMALLEST + "%%\n" + REPORT.replace("\n", "\r\n")}),
     given("the first entry of its report", "./pct trace a.pct report 1", 4, TRACE),
     given("its report, cut off", "./pct trace a.pct cut", 4, TRACE, cut="".join(REPORT.splitlines(True)[:6])),
+    given("a report of format 2 of another script", "./pct trace seven.pct report", 0, SEVEN_TRACE, DIFFERS, report=TWO),
+    given("a report of format 2", "./pct replay a.replay", 0, TWO, **{"a.replay": SMALLEST + "%%\n" + TWO}),
+    given("a report of format 2, to continue", "./pct continue 7 a.pct report 1", 0, TWO, report=TWO),
     given("no entry of its report", "./pct choices a.pct report 0 | head -n 1", 0, "verdict open\n"),
     given("a schedule is no report", "./pct trace seven.pct begun | tail -n 1", 0, "verdict open\n"),
     given("no FILE", "cat seven.pct marker report | ./pct trace", 0, SEVEN_TRACE, marker="%%\n"),
@@ -118,6 +125,8 @@ ORDERS = [
     given("the report first, to continue", "./pct continue 7 report a.pct", 6, "refused script 1 unknown_word\n", ["pct: report is a report: the script comes first, './pct continue SEED FILE PREFIX'\n"]),
     given("a report alone, to replay", "./pct replay report", 6, "refused script 1 unknown_word\n", ["pct: report is a report: the script comes first, './pct replay FILE PREFIX'\n"]),
     given("a schedule with CR LF first", "./pct lanes crlf a.pct", 6, "refused script 1 unknown_word\n", ["pct: crlf is a schedule: the script comes first, './pct lanes FILE PREFIX'\n"], crlf=BEGUN.replace("\n", "\r\n")),
+    given("a report of format 2 first", "./pct trace report a.pct", 6, "refused script 1 unknown_word\n", ["pct: report is a report: the script comes first, './pct trace FILE PREFIX'\n"], report=TWO),
+    given("a schedule of format 2 to run", "./pct run begun", 6, "refused script 1 unknown_word\n", ["pct: begun is a schedule, and no script\n"], begun=BEGUN.replace("schedule 1", "schedule 2")),
     given("a report to run", "./pct run report", 6, "refused script 1 unknown_word\n", ["pct: report is a report, and no script\n"]),
 ]
 

@@ -108,7 +108,8 @@ class Vector:
 
     def report(self):
         is_refused = self.verdict.startswith("refused")
-        return [self.verdict] if is_refused else ["report 1", *self.events(), self.verdict, *self.schedule()]
+        title = f"report {self.header.split()[1]}"
+        return [self.verdict] if is_refused else [title, *self.events(), self.verdict, *self.schedule()]
 
     def status(self):
         return STATUSES.get(" ".join(self.verdict.split()[:2]))
@@ -178,7 +179,7 @@ def expanded(lines):
 def step_of(number, line):
     """The process, the thread, the choice and the events of a line `P.T CHOICE | EVENT; EVENT`."""
     entry, _, events = line.partition("|")
-    found = re.fullmatch(r"(\d+)\.(\d+) ((?:act|new|pick|dtor) \d+|go)", entry.strip())
+    found = re.fullmatch(r"(\d+)\.(\d+) ((?:act|new|pick|dtor) \d+|go|expire)", entry.strip())
     if not found:
         fail(number, "this is no step")
     return (*found.groups(), [event.strip() for event in events.split(";") if event.strip()])

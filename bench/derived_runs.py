@@ -32,9 +32,11 @@ def report_in(text):
     """The report of a text. A text that is no report is a NoEvent."""
     title, *lines = text.split("\n")
     verdicts = [place for place, line in enumerate(lines) if line.startswith("verdict ")]
-    if title != "report 1" or not verdicts:
+    if title not in ("report 1", "report 2") or not verdicts:
         raise NoEvent(f"no report, or one without a verdict: {text.strip()[:200]!r}")
     place = verdicts[0]
+    if lines[place + 1].split()[:2] != ["schedule", title.split()[1]]:
+        raise NoEvent(f"a report of one format with a schedule of another: {title!r}, {lines[place + 1]!r}")
     ends = next(at for at, line in enumerate(lines) if line.startswith("end ") and at > place)
     return Report(events_of(lines[:place]), lines[place], lines[place + 1], lines[place + 2:ends])
 

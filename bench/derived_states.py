@@ -11,6 +11,9 @@ PROCESSES, REGISTRATIONS, EXITS = 8, 16, 32
 CANCELED = NUMBER - 1
 OPTIONAL_POINTS = ("fclose", "fflush", "fgets", "fopen", "fprintf", "fputs", "printf", "puts", "opendir", "closedir", "readdir")
 PHASES = {"prepare": 0, "parent": 1, "child": 2}
+TIMED_WAITS = ("pthread_cond_timedwait", "sem_timedwait")
+# The result of a timed wait whose time expired, ETIMEDOUT.
+TIMED_OUT = 4
 
 
 class Frame:
@@ -51,6 +54,8 @@ class World:
         thread = process.threads[tid]
         if choice == "act":
             return self.act(process, thread, number)
+        if choice == "expire":
+            return self.expire(process, thread)
         return getattr(self, "when_" + thread.status[0])(process, thread, number)
 
     # ---- what several steps do
@@ -109,6 +114,20 @@ class World:
         self.wake(process.threads[number], "signal")
         return [("cancel_wait", cond), ("handon", cond, str(number))]
 
+    # ---- the time of a wait expires
+
+    def expire(self, process, thread):
+        if thread.status[0] == "sem":
+            self.returns(process, thread, *self.result_of(thread, TIMED_OUT))
+            return [("answer", "sem_timedwait", str(TIMED_OUT))]
+        self.wake(thread, "time")
+        return [("expire", thread.status[1])]
+
+    def result_of(self, thread, number):
+        """The result of the wait in which the thread is, if it has one: where it goes, and what it is."""
+        words = thread.frames[0].function.body[thread.frames[0].pc]
+        return [(words[1], number)] if words[0] in TIMED_WAITS else []
+
     # ---- a thread that is in a call, ends, or exits
 
     def when_in(self, process, thread, number):
@@ -126,7 +145,7 @@ class World:
     def when_sem(self, process, thread, number):
         sem = thread.status[1]
         process.counts[sem] -= 1
-        self.returns(process, thread)
+        self.returns(process, thread, *self.result_of(thread, 0))
         return [("take", sem)]
 
     def when_waitpid(self, process, thread, number):
@@ -145,8 +164,9 @@ class World:
         if why == "canceled":
             self.begin_end(thread, "canceled")
             return [("acquire", mutex), ("ending", "canceled", cond, mutex)]
-        self.returns(process, thread)
-        return [("acquire", mutex), ("done", "pthread_cond_wait")]
+        name = thread.frames[0].function.body[thread.frames[0].pc][0]
+        self.returns(process, thread, *self.result_of(thread, TIMED_OUT if why == "time" else 0))
+        return [("acquire", mutex), ("answer", name, str(TIMED_OUT)) if why == "time" else ("done", name)]
 
     def due(self, process, thread):
         return [key for key, value in thread.values.items() if value and process.keys[key] != "-"]
@@ -398,6 +418,11 @@ class World:
         thread.status = ("waiting", words[1], words[2])
         return [("call", "pthread_cond_wait"), ("release", words[2])]
 
+    def at_pthread_cond_timedwait(self, process, thread, words, number):
+        process.owners[words[3]] = 0
+        thread.status = ("waiting", words[2], words[3])
+        return [("call", "pthread_cond_timedwait"), ("release", words[3])]
+
     def at_pthread_cond_signal(self, process, thread, words, number):
         if number is not None:
             self.wake(process.threads[number], "signal")
@@ -414,6 +439,10 @@ class World:
     def at_sem_wait(self, process, thread, words, number):
         thread.status = ("sem", words[1])
         return [("call", "sem_wait")]
+
+    def at_sem_timedwait(self, process, thread, words, number):
+        thread.status = ("sem", words[2])
+        return [("call", "sem_timedwait")]
 
     def at_sem_post(self, process, thread, words, number):
         process.counts[words[1]] = (process.counts[words[1]] + 1) % NUMBER

@@ -175,33 +175,62 @@ def is_enabled(events, pid, tid, end):
 # Functions that may be cancellation points and need not be: they return in the step of their call.
 OPTIONAL_POINTS = ("fclose", "fflush", "fgets", "fopen", "fprintf", "fputs", "printf", "puts", "opendir", "closedir", "readdir")
 
-# Functions that return by an event of their own, `joined`, `take`, `reap` or `answer waitpid 3`.
-OWN_RETURN = ("pthread_join", "sem_wait", "waitpid")
+# Functions that return by an event of their own, `joined`, `take`, `answer sem_timedwait 4`, `reap` or `answer waitpid 3`.
+OWN_RETURN = ("pthread_join", "sem_wait", "sem_timedwait", "waitpid")
 
-WAIT = ("call", "pthread_cond_wait")
+TIMED = ("call", "pthread_cond_timedwait")
+WAITS = (("call", "pthread_cond_wait"), TIMED)
+SEM_WAITS = ("sem_wait", "sem_timedwait")
 
 
 def returns(event, past):
-    """XSH 2.9.5.2, pthread_cond_wait: a function that shall be a cancellation point returns only in a thread that called it, and
-    a condition wait goes on by its stages. `past` are the words of the earlier events of the thread, oldest first."""
-    words = [words[0] for words in past]
+    """XSH 2.9.5.2, pthread_cond_wait, pthread_cond_timedwait, sem_timedwait: a function that shall be a cancellation point returns
+    only in a thread that called it, and a condition wait goes on by its stages. `past` are the words of the earlier events of the
+    thread, oldest first."""
     if event.word == "done" and event.words[1] in OWN_RETURN:
         return False
-    point = event.words[1] if event.word == "done" else {"take": "sem_wait", "reap": "waitpid"}.get(event.word)
-    if point == "pthread_cond_wait":
-        return past[-3:-2] == [WAIT] and words[-2:] == ["release", "acquire"] and past[-2][1] == past[-1][1]
+    point = event.words[1] if event.word == "done" else "waitpid" if event.word == "reap" else None
+    if ("call", point) in WAITS:
+        return is_wait(past[:-1], ("call", point)) and past[-1:] == [("acquire", past[-2][1])]
     if point is not None and point not in OPTIONAL_POINTS and point != "pthread_testcancel":
         return past[-1:] == [("call", point)]
+    if event.word == "take":
+        return any(past[-1:] == [("call", name)] for name in SEM_WAITS)
+    if event.words[:2] == ("answer", "sem_timedwait"):
+        return past[-1:] == [("call", "sem_timedwait")]
+    if event.words[:2] == ("answer", "pthread_cond_timedwait"):
+        return has_expired(past[:-1]) and past[-1:] == [("acquire", past[-3][1])]
+    if event.word == "expire":
+        return is_wait(past, TIMED)
     if event.word == "cancel_wait":
-        return past[-2:-1] == [WAIT] and words[-1:] == ["release"]
+        return is_wait(past, *WAITS) or has_expired(past) and past[-1] == ("expire", event.words[1])
     if event.word == "handon":
-        return past[-1:] == [("cancel_wait", event.words[1])]
+        return past[-1:] == [("cancel_wait", event.words[1])] and not has_expired(past[:-1])
     if event.words[:2] == ("ending", "canceled") and len(event.words) == 4:
-        cond, mutex = event.words[2:]
-        # A signal may have been handed on in the step of the act.
-        stages = past[-5:-2] + past[-1:] if words[-2:-1] == ["handon"] else past[-4:]
-        return stages == [WAIT, ("release", mutex), ("cancel_wait", cond), ("acquire", mutex)]
+        return ends_wait(past, *event.words[2:])
     return True
+
+
+def is_wait(past, *calls):
+    """The newest events are one of these calls, and the release of a mutex."""
+    return len(past) > 1 and past[-2] in calls and past[-1][0] == "release"
+
+
+def has_expired(past):
+    """The newest event is that the time of a wait expired."""
+    return past[-1:] != [] and past[-1][0] == "expire" and is_wait(past[:-1], TIMED)
+
+
+def ends_wait(past, cond, mutex):
+    """The newest events are those of a wait on the condition variable that a request ended: its mutex was released and is owned
+    again. Its time may have expired before the act, or a signal may have been handed on in the step of the act."""
+    if past[-1:] != [("acquire", mutex)]:
+        return False
+    past = past[:-2] if past[-2:-1] and past[-2][0] == "handon" else past[:-1]
+    if past[-1:] != [("cancel_wait", cond)]:
+        return False
+    past = past[:-2] if has_expired(past[:-1]) else past[:-1]
+    return is_wait(past, *WAITS) and past[-1] == ("release", mutex)
 
 
 def unblocked_by(events, pid, tid, end):
@@ -224,6 +253,8 @@ def cancel_law(events):
             yield place, "a thread returns from a point that it did not call, or leaves a wait that it is not in"
         if event.word == "cancel_wait" and any(cond != event.words[1] for cond in unblocked_by(events, event.pid, event.tid, place)):
             yield place, "a thread leaves the wait on another condition variable than that whose signal unblocked it"
+        if event.word == "expire" and any(unblocked_by(events, event.pid, event.tid, place)):
+            yield place, "the time of a wait expires after a signal unblocked the thread"
         if event.words == ("state", "enable") and had(events, event.pid, event.tid, place, "ending", "exit"):
             yield place, "a thread that has begun to end, or to exit its process, enables cancelability"
         acts = event.words[:2] == ("ending", "canceled") or event.word == "cancel_wait"
@@ -303,6 +334,6 @@ def asleep(events):
         before = newest.get((event.pid, event.tid), ((), ()))[1]
         newest[event.pid, event.tid] = (before, event.words)
     for (pid, tid), (before, last) in newest.items():
-        waits = last[0] == "call" or last[0] == "release" and before == ("call", "pthread_cond_wait")
+        waits = last[0] in ("call", "expire") or last[0] == "release" and before in WAITS
         if waits and pid not in gone and is_requested(events, pid, tid, len(events)) and is_enabled(events, pid, tid, len(events)):
             yield pid, tid

@@ -31,13 +31,19 @@ key_delete K
 acquire M
 release M
 call pthread_cond_wait
+call pthread_cond_timedwait
 signal C N
 broadcast C N
 done pthread_cond_wait
+done pthread_cond_timedwait
+expire C
+answer pthread_cond_timedwait 4
 cancel_wait C
 handon C N
 call sem_wait
+call sem_timedwait
 take S
+answer sem_timedwait 4
 post S
 fork P
 answer fork 1

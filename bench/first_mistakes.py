@@ -66,9 +66,24 @@ REFUSED = [
     ("an undeclared function", "unknown_name", 2, "fn main x\ndo f 1\nend\n", "Mend: add the function, as 'fn f x' with its 'end'"),
     ("a mutex declared in a function", "misplaced", 2, "fn main x\nmutex m\nend\n", "The function 'main' of line 1 is open here", "Mend: move the line out of the function"),
     (
-        "a pthread_cond_timedwait", "unknown_word", 4, "mutex m\ncond c\nfn main x\npthread_cond_timedwait c m 5\nend\n",
-        "It is planned, and not in this language yet.\n", "  Mend: write 'pthread_cond_wait C M', which waits without a limit",
+        "a timed wait with a time", "bad_name", 4, "mutex m\ncond c\nfn main x\npthread_cond_timedwait c m 5\nend\n",
+        "'5' is in the place of M, the name of a mutex.", "  Mend: write 'pthread_cond_timedwait - c m'. DEST is a variable for the result, 0 or 4 (ETIMEDOUT), or '-'. No time\n    is given",
     ),
+    (
+        "a timed wait without its result", "word_count", 4, "mutex m\ncond c\nfn main r\npthread_cond_timedwait c m\nend\n",
+        "Its form is 'pthread_cond_timedwait DEST C M', and 2 words are after", "  Mend: write 'pthread_cond_timedwait - c m'.",
+    ),
+    (
+        "a timed wait as in C", "unknown_word", 4, "mutex lock\ncond full\nfn main r\npthread_cond_timedwait(&full, &lock, &until);\nend\n",
+        "it is 'pthread_cond_timedwait DEST C M', without brackets", "  Mend: write 'pthread_cond_timedwait - full lock'.",
+    ),
+    (
+        "a timed wait for a mutex", "unknown_name", 4, "mutex m\ncond c\nfn main r\npthread_cond_timedwait r m c\nend\n",
+        "the word 'm' has to be a condition variable, and it is a mutex, line 1.", "  Mend: write 'pthread_cond_timedwait r c m'.",
+    ),
+    ("sem_timedwait without its result", "word_count", 3, "sem s 0\nfn main r\nsem_timedwait s\nend\n", "Its form is 'sem_timedwait DEST S'", "  Mend: write 'sem_timedwait - s'."),
+    ("sem_timedwait with a time", "unknown_name", 3, "sem s 0\nfn main t\nsem_timedwait s t\nend\n", "the word 's' has to be a variable", "  Mend: write 'sem_timedwait t s'."),
+    ("sem_timedwait of an unknown semaphore", "unknown_name", 2, "fn main r\nsem_timedwait r s\nend\n", "'s' has to be a semaphore", "  Mend: add a line 'sem s 0'"),
     (
         "a mutex where a condition variable is needed", "unknown_name", 4, "mutex m\ncond c\nfn main x\npthread_cond_wait m c\nend\n",
         "In 'pthread_cond_wait C M' the word 'm' has to be a condition variable, and it is a mutex, line 1.", "Mend: write 'pthread_cond_wait c m'.\n",

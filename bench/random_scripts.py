@@ -1,5 +1,5 @@
-"""Random scripts, with requests, asynchronous cancelability, destructors that set values again, condition waits, forks, fork handlers,
-results that are stored and shown, and exits in handlers.
+"""Random scripts, with requests, asynchronous cancelability, destructors that set values again, condition waits, timed waits, forks, fork
+handlers, results that are stored and shown, and exits in handlers.
 """
 import random
 
@@ -24,9 +24,11 @@ class Scripts:
         self.exits = self.random.random() < 0.25
         self.own = None
         # In a crowd, all workers wait on the condition variable first.
-        self.crowd = self.random.random() < 0.2
+        self.crowd = self.random.random() < 0.35
         # In a script that is wild, calls are made where they may stop the run.
         self.wild = self.random.random() < 0.15
+        # In a script that is timed, many waits have a time.
+        self.timed = self.random.random() < 0.5
         # In a quiet one, the parts around pushes, points and requests are rare, and ends are frequent.
         self.quick = self.random.random() < 0.3
 
@@ -53,20 +55,34 @@ class Scripts:
             if self.chance(0.85):
                 out.append("pthread_setcancelstate enable -")
 
+    def cond_wait(self, cond, mutex):
+        """A wait on a condition variable. Its result, if it has one, goes to a local that is shown, or is dropped."""
+        if not self.timed or self.chance(0.5):
+            return [f"pthread_cond_wait {cond} {mutex}"]
+        timed = f"pthread_cond_timedwait r {cond} {mutex}"
+        # In a loop the thread waits again after each time-out, so that a signal may come.
+        again = ["set y 12", "while y", timed, "add y 4294967295", "if r", "else", "set y 0", "end", "end", "emit r"]
+        return self.one([timed, "emit r"], [f"pthread_cond_timedwait - {cond} {mutex}"], again, again)
+
+    def sem_wait(self):
+        if not self.timed or self.chance(0.4):
+            return ["sem_wait s"]
+        return self.one(["sem_timedwait r s", "emit r"], ["sem_timedwait - s"], ["sem_timedwait y s", "if y", "sem_post s", "end"])
+
     def waits(self, out):
         guarded = self.chance(0.7)
         out.append("pthread_mutex_lock m")
         if guarded:
             out.append("pthread_cleanup_push u 0")
         if self.chance(0.5):
-            out += ["set go 0", "pthread_cond_wait c m"]
+            out += ["set go 0", *self.cond_wait("c", "m")]
         else:
-            out += ["if go", "else", "pthread_cond_wait c m", "end"]
+            out += ["if go", "else", *self.cond_wait("c", "m"), "end"]
         out.append("pthread_cleanup_pop 1" if guarded else "pthread_mutex_unlock m")
 
     def other_waits(self, out):
         """A wait on another condition variable, with another mutex."""
-        out += ["pthread_mutex_lock l", "pthread_cleanup_push v 0", "pthread_cond_wait d l", "pthread_cleanup_pop 1"]
+        out += ["pthread_mutex_lock l", "pthread_cleanup_push v 0", *self.cond_wait("d", "l"), "pthread_cleanup_pop 1"]
 
     def results(self, out):
         """A call whose results are stored and shown, and may go to one variable."""
@@ -152,7 +168,7 @@ class Scripts:
         elif way == "pushed":
             self.pushed(out, depth, kind)
         elif way == "sem":
-            out.append(self.one("sem_post s", "sem_post s", "sem_wait s"))
+            out += self.one(["sem_post s"], ["sem_post s"], self.sem_wait())
         elif way == "signal":
             out += [self.one("pthread_cond_signal c", "pthread_cond_broadcast c", "pthread_cond_signal d"), "set go 1"]
         elif way == "results":
@@ -206,7 +222,7 @@ class Scripts:
         for _ in range(self.random.randint(0, 2)):
             out.append(f"pthread_setspecific {self.one('k0', 'k1')} {self.one('1', '5', '9')}")
         if self.crowd:
-            out += ["pthread_mutex_lock m", "pthread_cleanup_push u 0", "pthread_cond_wait c m", self.one("emit 6", "pthread_testcancel", "nop"), "pthread_cleanup_pop 1"]
+            out += ["pthread_mutex_lock m", "pthread_cleanup_push u 0", *self.cond_wait("c", "m"), self.one("emit 6", "pthread_testcancel", "nop"), "pthread_cleanup_pop 1"]
         for _ in range(self.random.randint(1, 3 if self.quick else 5)):
             self.part(out, 0, "worker")
         if self.chance(0.5):
@@ -264,6 +280,8 @@ class Scripts:
                     if self.chance(0.6):
                         out += [f"if {thread}", f"pthread_cancel {thread}", "end"]
                 out += ["emit 81"] * self.random.choice([0, 3, 6]) + ["pthread_mutex_unlock m"]
+        if self.timed and self.chance(0.6):
+            out += ["set y 8", "while y", "pthread_mutex_lock m", "pthread_cond_signal c", "pthread_mutex_unlock m", "add y 4294967295", "end"]
         if self.chance(0.5):
             out += ["pthread_mutex_lock m", "set go 1", "pthread_cond_broadcast c", "pthread_mutex_unlock m"]
         for thread, worker in zip(self.threads, self.workers):

@@ -96,6 +96,24 @@ RUNS = [
         "  Thread 1.2 is in pthread_cond_wait c m", " since step 3.\n  Use:",
     ),
     (
+        "a timed wait without its mutex", "", "undefined not_owner", "mutex m\ncond c\nfn main x\npthread_cond_timedwait - c m\nend\n",
+        "F:4: undefined not_owner, step 1 of thread 1.1 in main\n", "  Mutex m has no owner: no thread of process 1 has locked it.\n  Use:",
+    ),
+    (
+        "a timed wait with a second mutex", ["1 1 1 new 2", "1 1 2 go", "1 1 2 go", "1 1 1 go", "1 1 1 go"], "undefined cond_two_mutexes",
+        "mutex n\n" + WAITER + "fn main x\npthread_create - - w 0\npthread_mutex_lock n\npthread_cond_timedwait - c n\nend\n",
+        "  Thread 1.2 is in pthread_cond_wait c m", " since step 3.\n  Use:",
+    ),
+    (
+        "a timed wait under format 1", ["1 1 1 go", "1 1 1 go"], "deadlock", "mutex m\ncond c\nfn main x\npthread_mutex_lock m\npthread_cond_timedwait - c m\nend\n",
+        "F:5: thread 1.1 waits for condition variable c: pthread_cond_timedwait - c m\n    a schedule of format 1 has no 'expire': under it the time of no wait expires\n",
+        "  Mend: write 'schedule 2' in the place of 'schedule 1' in the header.",
+    ),
+    (
+        "a sem_timedwait under format 1", ["1 1 1 go"], "deadlock", "sem s 0\nfn main r\nsem_timedwait r s\nend\n",
+        "F:3: thread 1.1 waits for semaphore s: sem_timedwait r s\n    a schedule of format 1 has no 'expire'", "  Mend: write 'schedule 2'",
+    ),
+    (
         "a handler that enables", "", "undefined enable_in_handler", HANDLER.format("pthread_setcancelstate enable -"),
         "  Thread 1.1 is in the cleanup handler h, called in step 3.\n  Use:",
     ),

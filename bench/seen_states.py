@@ -77,11 +77,12 @@ STATUSES = (
     (r"exiting", lambda: ("exiting",)),
     (r"in fork, (\w+)", lambda phase: ("forking", phase)),
     (r"in pthread_join (\d+)", lambda tid: ("joining", int(tid))),
-    (r"in sem_wait (\w+)", lambda sem: ("sem", sem)),
+    (r"in sem_(?:timed)?wait (\w+)", lambda sem: ("sem", sem)),
     (r"in waitpid (\d+)", lambda pid: ("waitpid", int(pid))),
-    (r"in pthread_cond_wait (\w+) (\w+)", lambda cond, mutex: ("waiting", cond, mutex)),
-    (r"in pthread_cond_wait (\w+) (\w+), unblocked by a (\w+)", lambda cond, mutex, why: ("unblocked", cond, mutex, why)),
-    (r"in pthread_cond_wait (\w+) (\w+), acts on a request", lambda cond, mutex: ("unblocked", cond, mutex, "canceled")),
+    (r"in pthread_cond_(?:timed)?wait (\w+) (\w+)", lambda cond, mutex: ("waiting", cond, mutex)),
+    (r"in pthread_cond_(?:timed)?wait (\w+) (\w+), unblocked by a (\w+)", lambda cond, mutex, why: ("unblocked", cond, mutex, why)),
+    (r"in pthread_cond_timedwait (\w+) (\w+), unblocked as its (time) expired", lambda cond, mutex, why: ("unblocked", cond, mutex, why)),
+    (r"in pthread_cond_(?:timed)?wait (\w+) (\w+), acts on a request", lambda cond, mutex: ("unblocked", cond, mutex, "canceled")),
     (r"in (\w+)", lambda name: ("in", name)),
 )
 
@@ -93,6 +94,12 @@ def status_in(field):
         if found:
             return status(*found.groups())
     raise ValueError(f"no status: {field!r}")
+
+
+def status_at(field, statement):
+    """The status in a field. A call that is not that of the statement is none."""
+    call = re.match(r"in (\w+)", field)
+    return status_in(field) if call is None or statement.split()[0] == call[1] else ("in another call", field)
 
 
 def position_in(field, script):
@@ -125,8 +132,8 @@ def viewed(states, choices, script):
     """What is seen in the texts of the two views of one state."""
     processes, current = {}, {}
     for fields in (line.split("\t") for line in choices.splitlines() if is_row(line)):
-        name, _, _, status, mode, handlers = fields
-        current[name] = (status_in(status), mode, tuple((function, int(argument)) for function, argument in map(str.split, phrases(handlers))))
+        name, _, statement, status, mode, handlers = fields
+        current[name] = (status_at(status, statement), mode, tuple((function, int(argument)) for function, argument in map(str.split, phrases(handlers))))
     for fields in (line.split("\t") for line in states.splitlines() if is_row(line)):
         if "." not in fields[0]:
             pid, variables, owners, counts, keys, others = fields

@@ -11,6 +11,10 @@
 from script_text import NUMBER
 
 CALLS = ("create", "key")
+COND_WAITS = ("pthread_cond_wait", "pthread_cond_timedwait")
+# The events by which a timed wait returns without an error, and the number of ETIMEDOUT.
+RETURNS = {"sem_timedwait": "take", "pthread_cond_timedwait": "done"}
+ETIMEDOUT = "4"
 
 
 # ---- Values
@@ -61,8 +65,11 @@ def stored(step):
         return [(words[2], int(event[2]))]
     if event[0] == "reap":
         return [(words[1], 0), (words[3], int(event[2]))]
-    if event[0] == "answer" and event[1] != "fork":
-        return [(words[1], int(event[2]))]
+    answer = step.event("answer")
+    if answer and answer[1] != "fork":
+        return [(words[1], int(answer[2]))]
+    if words[0] in RETURNS and step.event(RETURNS[words[0]]):
+        return [(words[1], 0)]
     if not step.runs:
         return []
     if event[0] in CALLS:
@@ -83,7 +90,7 @@ def stored(step):
 
 
 def results(step):
-    """XSH pthread_create, pthread_join, fork, waitpid, pthread_getspecific and the others: the result of a call is stored."""
+    """XSH pthread_create, pthread_join, fork, waitpid, sem_timedwait, pthread_getspecific and the others: the result of a call is stored."""
     if step.process_after is None:
         return
     shared = dict(step.process.variables)
@@ -220,24 +227,44 @@ def unblocked(step):
 def own_wait(step):
     """The status of the thread that makes the step, if it comes to a condition wait or is in one, and the sentence; or None."""
     status = step.thread.status
-    if step.runs and step.words[0] == "pthread_cond_wait":
-        return ("waiting", *step.words[1:3]), "a thread that calls pthread_cond_wait waits on its operands"
+    if step.runs and step.words[0] in COND_WAITS:
+        return ("waiting", *step.words[-2:]), "a thread that calls a condition wait waits on its operands"
     if status[0] in ("waiting", "unblocked") and step.acts:
         return ("unblocked", *status[1:3], "canceled"), "a thread that acts in a condition wait leaves it, and goes for its mutex"
+    if has_expired(step):
+        return ("unblocked", *status[1:3], "time"), "a thread whose time expires in a timed wait leaves it, and goes for its mutex"
     if status[0] == "unblocked":
         return ("ending",) if status[3] == "canceled" else ("running",), "a thread that was unblocked returns with its mutex, or begins to end"
     return None
 
 
+def has_expired(step):
+    """The step is that the time of a wait on a condition variable expires, and the wait has a time."""
+    status = step.thread.status
+    return status[0] == "waiting" and step.words[0] == "pthread_cond_timedwait" and ("expire", status[1]) in step.events
+
+
+def time_outs(step):
+    """XSH pthread_cond_timedwait, sem_timedwait."""
+    status, answer = step.thread.status, step.event("answer")
+    timed_out = answer is not None and answer[1] in RETURNS
+    expired = status[0] == "unblocked" and status[3] == "time" and not step.acts
+    if timed_out and answer[2] != ETIMEDOUT or status[0] == "unblocked" and timed_out != expired:
+        yield "a condition wait gives ETIMEDOUT exactly if its time expired"
+    if timed_out and answer[1] == "sem_timedwait" and (status[0] != "sem" or step.process.counts[status[1]] > 0):
+        yield "sem_timedwait times out only while the count is 0"
+
+
 def wake_ups(step):
-    """XSH pthread_cond_wait, pthread_cond_signal, pthread_cond_broadcast."""
+    """XSH pthread_cond_wait, pthread_cond_timedwait, sem_timedwait, pthread_cond_signal, pthread_cond_broadcast."""
     if step.stops or step.process_after is None:
         return
     woken, broken = unblocked(step)
     yield from broken
+    yield from time_outs(step)
     status = step.thread.status
-    if status[0] == "waiting" and not step.acts:
-        yield "a thread that waits makes no step but that it acts"
+    if status[0] == "waiting" and not step.acts and not has_expired(step):
+        yield "a thread that waits makes no step but that it acts, or that the time of a timed wait expires"
     others = [tid for tid, other in step.process.threads.items() if other.status[:2] == ("waiting", *status[1:2]) and tid != step.tid]
     owes = step.acts and status[0] == "unblocked" and status[3] == "signal" and bool(others)
     if owes != (step.event("handon") is not None):
@@ -246,7 +273,7 @@ def wake_ups(step):
     if wanted and (step.then is None or step.then.status != wanted[0]):
         yield wanted[1]
     elif not wanted and step.then is not None and step.then.status[0] in ("waiting", "unblocked"):
-        yield "a thread waits by pthread_cond_wait alone"
+        yield "a thread waits by a condition wait alone"
     if status[0] == "unblocked" and not step.acts and ("acquire", status[2]) not in step.events:
         yield "a thread that was unblocked returns with its mutex, or begins to end"
     for tid, other in step.process.threads.items():

@@ -129,5 +129,5 @@ class Step:
     @property
     def stays(self):
         """The thread comes to a call in which it waits, or goes on in it, and has not returned from it."""
-        in_call = self.first in ("call", "cancel_wait") or self.begins_fork or self.made_process is not None
+        in_call = self.first in ("call", "cancel_wait", "expire") or self.begins_fork or self.made_process is not None
         return self.stops or in_call

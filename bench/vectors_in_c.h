@@ -27,9 +27,11 @@
 #include <unistd.h>
 
 enum { PROCESSES = 10, THREADS = 20, KEYS = 20 };
+#define NEVER (INT64_MAX / 2)
 /* What an entry is: a step of its thread's own code; one with a call in which the thread is suspended; one at which it
- * acts; one that no code of the program makes; one that stops the run. */
-enum kind { STEP, CALL, ACT, END_OF_THREAD, END_OF_PROCESS, NO_CODE, STOP };
+ * acts; one that no code of the program makes; one at which the time of a condition wait expires; one that stops the
+ * run. */
+enum kind { STEP, CALL, ACT, END_OF_THREAD, END_OF_PROCESS, NO_CODE, EXPIRY, STOP };
 enum frame { MAIN, START, OTHER };
 enum { state_enable = PTHREAD_CANCEL_ENABLE, state_disable = PTHREAD_CANCEL_DISABLE };
 
@@ -40,6 +42,7 @@ struct entry {
     int is_event;    /* the event that a suspended thread awaits comes now */
     int is_acquired; /* a condition wait ends here, and its mutex has an event `acquire` */
     int is_alike;    /* any thread that returns from this wait may be the one of the entry */
+    int is_expiry;   /* the time of the wait that the thread is in expires now */
 };
 
 static const struct entry entries[];
@@ -54,6 +57,7 @@ struct place {
     volatile pid_t pid, tid;
     volatile int is_in_call;
     const char *volatile at; /* the function that the library calls and that waits for its turn */
+    volatile int64_t until;  /* the time of the timed wait that the thread is in, in nanoseconds, or NEVER */
 };
 
 static struct shared {
@@ -130,6 +134,13 @@ static void rest(void)
     syscall(SYS_nanosleep, &a_while, NULL);
 }
 
+static int64_t now(void)
+{
+    struct timespec time;
+    clock_gettime(CLOCK_REALTIME, &time);
+    return (int64_t)time.tv_sec * 1000000000 + time.tv_nsec;
+}
+
 /* Makes the awaited event of the entry at `turn` come, and passes over entries that no code makes. */
 static void progress(void)
 {
@@ -151,6 +162,9 @@ static void progress(void)
         if (entry->kind == STEP || entry->kind == CALL || entry->kind == ACT)
             return;
         if (entry->kind == END_OF_THREAD && !has_ended(place->pid, place->tid))
+            return;
+        /* The thread is awake a little later, and then waits for its mutex. */
+        if (entry->kind == EXPIRY && now() < place->until + 50000000)
             return;
         if (entry->kind == END_OF_PROCESS && !has_ended(place->pid, place->pid))
             return;
@@ -265,6 +279,7 @@ static void show_result(int error, const char *event, unsigned number)
 static void begin_call(void)
 {
     if (take()->kind == CALL) {
+        shared->places[process][thread].until = NEVER;
         shared->places[process][thread].is_in_call = 1;
         pass();
     }
@@ -318,6 +333,32 @@ static void acted_in_wait(void *given)
     call; \
     end_wait(&wait); \
     pthread_cleanup_pop(0)
+
+/* The time of a timed wait that begins now: soon, if the schedule lets it expire, and else in an hour. */
+static const struct timespec *until(void)
+{
+    static __thread struct timespec limit;
+    int64_t time = now() + 3600000000000;
+    for (int turn = shared->turn; turn < entry_count; turn++)
+        if (entries[turn].process == process && entries[turn].thread == thread) {
+            if (entries[turn].is_expiry)
+                time = now() + 200000000;
+            break;
+        }
+    shared->places[process][thread].until = time;
+    limit.tv_sec = time / 1000000000;
+    limit.tv_nsec = time % 1000000000;
+    return &limit;
+}
+
+/* Shows the event of a timed wait. */
+static void show_timed_result(int error, const char *name, const char *event)
+{
+    if (error == ETIMEDOUT)
+        show("answer %s 4", name);
+    else
+        show_result(error, event, 0);
+}
 
 static void settle(int number)
 {

@@ -82,11 +82,15 @@ SEEN = set("""emit push pop create joined detach state type done request key key
 acquire exit at_exit prepare parent child process_end""".split())
 
 
+COND_WAITS = ("pthread_cond_wait", "pthread_cond_timedwait")
+SEM_WAITS = ("sem_wait", "sem_timedwait")
+
+
 def seen(step, kind):
     """The events of a step that the program shows, as it shows them."""
     if kind not in ("STEP", "CALL", "ACT"):
         return
-    is_wait = any(event.endswith("pthread_cond_wait") or event.startswith("ending canceled ") for event in step.events)
+    is_wait = any(event.endswith(COND_WAITS) or event.startswith("ending canceled ") for event in step.events)
     for event in step.events:
         word, *rest = event.split()
         if word in ("signal", "broadcast"):
@@ -111,6 +115,8 @@ def kinds_of(steps):
             kind = "STOP"
         elif step.has("call"):
             kind = "CALL"
+        elif step.has("expire"):
+            kind = "EXPIRY"
         elif step.has("cancel_wait", "pass"):
             kind = "NO_CODE"
         elif step.has("ended"):
@@ -183,7 +189,7 @@ class Threads:
     def __init__(self, are_alike):
         self.are_alike = are_alike
         self.calls, self.requested, self.disabled = {}, {}, set()
-        self.ended, self.posts, self.unblocked = {}, {}, {}
+        self.ended, self.posts, self.unblocked, self.timed_out = {}, {}, {}, set()
 
     def why_not(self, step):
         """Why the library cannot be made to do this step, or nothing."""
@@ -192,12 +198,12 @@ class Threads:
         is_pending = who in self.requested and who not in self.disabled
         if call and step.choice != "act" and is_pending and not step.has("ending"):
             return "a thread with a request pending returns from its call"
-        if call and step.choice == "act" and self.may_return(who, call):
+        if call and step.choice == "act" and (who in self.timed_out or self.may_return(who, call)):
             return "a thread acts in a call that may return"
-        waits = sum(self.calls[other] == "pthread_cond_wait" for other in others)
+        waits = sum(self.calls[other] in COND_WAITS and other not in self.timed_out for other in others)
         if step.has("signal") and waits > 1 and not self.are_alike:
             return "which of several threads a signal wakes"
-        if step.has("take") and any(self.calls[other] == "sem_wait" for other in others):
+        if step.has("take") and any(self.calls[other] in SEM_WAITS for other in others):
             return "which of several threads takes a post"
         if step.has("reap") and any(self.calls[other] == "waitpid" for other in others):
             return "which of several threads reaps a child"
@@ -208,7 +214,7 @@ class Threads:
 
     def may_return(self, who, call):
         """Whether what the call of the thread waits for may have come before its end was requested."""
-        events = self.ended if call == "pthread_join" else self.posts if call == "sem_wait" else {}
+        events = self.ended if call == "pthread_join" else self.posts if call in SEM_WAITS else {}
         first = min((at for (process, _), at in events.items() if process == who[0]), default=None)
         if call == "waitpid":
             first = min((at for (_, thread), at in self.ended.items() if thread == 0), default=None)
@@ -223,6 +229,7 @@ class Threads:
             elif word in ("done", "joined", "take", "reap", "answer", "ending"):
                 self.calls.pop(who, None)
                 self.unblocked.pop(who, None)
+                self.timed_out.discard(who)
                 if word == "joined":
                     self.ended.pop((who[0], int(rest[0])), None)
             elif word == "request":
@@ -238,10 +245,12 @@ class Threads:
             elif word == "signal" and rest[1] != "0":
                 self.unblocked[(who[0], int(rest[1]))] = True
             elif word == "broadcast":
-                waiters = [other for other, call in self.calls.items() if call == "pthread_cond_wait"]
+                waiters = [other for other, call in self.calls.items() if call in COND_WAITS]
                 self.unblocked.update(dict.fromkeys(waiters, True))
-            elif word == "cancel_wait":
+            elif word in ("cancel_wait", "expire"):
                 self.unblocked[who] = True
+                if word == "expire":
+                    self.timed_out.add(who)
 
 
 def not_forced(script, steps):
@@ -413,9 +422,14 @@ STATEMENTS = {
     "pthread_mutex_unlock": ('show_result(pthread_mutex_unlock(&m_$1), "release $1", 0);', "n"),
     "pthread_cond_wait": ('int error; WAIT(error = pthread_cond_wait(&c_$1, &m_$2), m_$2, "$2"); '
                           'show_result(error, "done pthread_cond_wait", 0);', "nn"),
+    "pthread_cond_timedwait": ('int error; WAIT(error = pthread_cond_timedwait(&c_$2, &m_$3, until()), m_$3, "$3"); '
+                               'show_timed_result(error, "pthread_cond_timedwait", "done pthread_cond_timedwait"); '
+                               "$1 = error == ETIMEDOUT ? 4 : 0;", "dnn"),
     "pthread_cond_signal": ('show_result(pthread_cond_signal(&c_$1), "signal $1", 0);', "n"),
     "pthread_cond_broadcast": ('show_result(pthread_cond_broadcast(&c_$1), "broadcast $1", 0);', "n"),
     "sem_wait": ('int error; POINT(error = sem_wait(&s_$1)); show_result(error, "take $1", 0);', "n"),
+    "sem_timedwait": ('int error; POINT(error = sem_timedwait(&s_$2, until()) == 0 ? 0 : errno); '
+                      'show_timed_result(error, "sem_timedwait", "take $2"); $1 = error == ETIMEDOUT ? 4 : 0;', "dn"),
     "sem_post": ('show_result(sem_post(&s_$1), "post $1", 0);', "n"),
     "atexit": ('$1 = atexit(exit_$2) != 0; if ($1) show("answer atexit 1");', "dn"),
     "exit": ('uint32_t value = $1; show("exit %u", value); pass(); exit((int)value);', "v"),
@@ -443,10 +457,11 @@ def table_of(script, steps, verdict):
         for event in step.events:
             if event.startswith("fork "):
                 number = int(event.split()[1])
-        is_return = step.has("done") and step.has("acquire")
-        flags = "done read" in step.events, is_return or step.has("ending") and step.has("acquire"), is_return and alike
+        is_return = step.has("done", "answer") and step.has("acquire")
+        flags = ("done read" in step.events, is_return or step.has("ending") and step.has("acquire"), is_return and alike,
+                 step.choice == "expire")
         rows.append(f"    {{{step.process}, {step.thread}, {kind}, {number}, {', '.join(str(int(f)) for f in flags)}}},")
-    text = ["static const struct entry entries[] = {", *rows, "    {0, 0, STEP, 0, 0, 0, 0}};",
+    text = ["static const struct entry entries[] = {", *rows, "    {0, 0, STEP, 0, 0, 0, 0, 0}};",
             f"static const int entry_count = {len(steps)}, wanted_count = {len(lines)};",
             f"static const enum verdict verdict = {VERDICTS.get(verdict, 'OTHER_VERDICT')};",
             "static const char *const wanted[] = {", *(f'    "{line}",' for line in lines), "    NULL};"]

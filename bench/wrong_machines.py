@@ -45,19 +45,21 @@ class Machine:
     case: tuple = ()
     # The same, where the definition of what is offered (OfferedChoices) repeats the line, too.
     offer: tuple = ()
+    # Further such changes.
+    others: tuple = ()
 
 
 MACHINES = (
-    Machine("a_call_does_nothing", "Calls", "steps/CalledFunctions", "Actions",
+    Machine("a_call_does_nothing", "FrameLaw", "frames/MovedFrames", "Actions",
             "own_after (Some (own_action.RunHandler f a)) t = record t { status = Running; frames = new_frame f a kind.Handler ∷ []; handlers = without_first t.handlers }",
             "own_after (Some (own_action.RunHandler f a)) t = record t { handlers = without_first t.handlers }"),
     Machine("a_value_stays_as_its_destructor_is_called", "Calls", "steps/CalledFunctions", "Actions",
             "frames = new_frame f v kind.Destructor ∷ []; specific = without_value (key_place k) t.specific }",
             "frames = new_frame f v kind.Destructor ∷ [] }"),
-    Machine("an_exit_function_stays_registered", "Calls", "steps/CalledFunctions", "Actions",
+    Machine("an_exit_function_stays_registered", "SharedLaw", "SharedChanges", "Actions",
             "shared_after (Some shared_action.TakeExit) s = record s { exit_functions = without_first s.exit_functions }",
             "shared_after (Some shared_action.TakeExit) s = s"),
-    Machine("a_deleted_key_stays", "Calls", "KeyEvents", "Actions",
+    Machine("a_deleted_key_stays", "Calls", "steps/KeptKeys", "Actions",
             "shared_after (Some (shared_action.DeleteKey k)) s = record s { keys = without_key (key_place k) s.keys }",
             "shared_after (Some (shared_action.DeleteKey k)) s = s"),
     Machine("no_key_is_due", "Ends", "steps/EndStages", "ThreadEnds",
@@ -108,7 +110,7 @@ MACHINES = (
             ("TransitionCases",
              "(what.StateSet enable ∷ [])) { writes = (old, state_number t.state) ∷ []; own = Some (own_action.SetState (state_if enable)) })",
              "(what.StateSet false ∷ [])) { writes = (old, state_number t.state) ∷ []; own = Some (own_action.SetState (state_if false)) })")),
-    Machine("signal_wakes_nobody", "StatementLaw", "steps/SaidStatements", "CondCalls",
+    Machine("signal_wakes_nobody", "WakeLaw", "NamedWaiters", "CondCalls",
             "signals_by (alt.Pick u) next c = record (goes_on next (what.Signalled c u ∷ [])) { named = Some (named_action.Wake u) }",
             "signals_by (alt.Pick u) next c = goes_on next (what.Signalled c 0 ∷ [])",
             ("CaseOfTransition",
@@ -132,7 +134,7 @@ MACHINES = (
             ("TransitionCases",
              "(record (goes_on (suc frame.pc) (what.Taken sem ∷ [])) { shared = Some (shared_action.SetCount sem (slice_index shared.counts sem - 1)) })",
              "(goes_on (suc frame.pc) [])")),
-    Machine("nobody_is_seen_to_wait", "StatementLaw", "WaitingThreads", "Environment",
+    Machine("nobody_is_seen_to_wait", "WakeLaw", "WaitingThreads", "Environment",
             "waiter_by c id (status.Waiting cond m) = if nat_eq cond c then record { id = id; mutex = m } ∷ [] else []",
             "waiter_by c id (status.Waiting cond m) = []"),
     Machine("setspecific_stores_null", "ValueLaw", "results/SetValues", "TransitionTable",
@@ -148,14 +150,14 @@ MACHINES = (
     Machine("getspecific_reads_a_deleted_key", "ValueLaw", "results/UsedKeys", "StopTable",
             "stops_of frame (statement.GetSpecific d key) = (is_none (key_with (value frame key) shared.keys), why.KeyId) ∷ []",
             "stops_of frame (statement.GetSpecific d key) = (false, why.KeyId) ∷ []"),
-    Machine("a_wake_wakes_nobody", "WakeLaw", "Environment", "Actions",
+    Machine("a_wake_wakes_nobody", "WakeLaw", "OtherThreads", "Actions",
             "named_after (Some (named_action.Wake id)) t = if has_valid_id id t then record t { status = unblocked cause.Signalled t.status } else t",
             "named_after (Some (named_action.Wake id)) t = t"),
     # The others of those that wait stay in their wait.
-    Machine("a_broadcast_wakes_one", "WakeLaw", "Environment", "Actions",
+    Machine("a_broadcast_wakes_one", "WakeLaw", "OtherThreads", "Actions",
             "named_after (Some (named_action.WakeAll c)) t = if is_waiting_on c t.status then record",
             "named_after (Some (named_action.WakeAll c)) t = if is_waiting_on c t.status && nat_eq t.id 2 then record"),
-    Machine("a_step_disables_other_threads", "WakeLaw", "Environment", "Actions",
+    Machine("a_step_disables_other_threads", "WakeLaw", "OtherThreads", "Actions",
             "thread_moved tid o t = named_after o.named (if has_valid_id tid t then moved o t else t)",
             "thread_moved tid o t = named_after o.named (if has_valid_id tid t then moved o t else record t { state = ending_state })"),
     Machine("a_canceled_waiter_keeps_the_signal", "WakeLaw", "HandedOnSignals", "CondCalls",
@@ -171,14 +173,48 @@ MACHINES = (
              "(record (goes_on (suc frame.pc) (what.Released m ∷ [])) { shared = Some (shared_action.OwnMutex m 0) })",
              "(goes_on (suc frame.pc) (what.Released m ∷ []))")),
     Machine("sem_wait_returns_at_0", "SharedLaw", "SharedChanges", "ChoiceTable",
-            "choices_at next (status.InSem s) = go_if (nat_lt 0 (slice_index shared.counts s)) ++",
-            "choices_at next (status.InSem s) = go_if true ++",
+            "go_if (nat_lt 0 (slice_index shared.counts s)) ++ expire_if (can_expire environment next && not (nat_lt 0 (slice_index shared.counts s))) ++",
+            "go_if true ++ expire_if (can_expire environment next && not true) ++",
             ("TransitionCases",
              "sem_taken : (frame : Frame) (s sem : ℕ) → (offered ≡ true → nat_lt 0 (slice_index shared.counts sem) ≡ true)",
              "sem_taken : (frame : Frame) (s sem : ℕ) → (offered ≡ true → true ≡ true)"),
             ("OfferedChoices",
-             "goes_at shared others (status.InSem sem) = nat_lt 0 (slice_index shared.counts sem)",
-             "goes_at shared others (status.InSem sem) = true")),
+             "goes_at shared environment (status.InSem sem) = nat_lt 0 (slice_index shared.counts sem)",
+             "goes_at shared environment (status.InSem sem) = true"),
+            (("TransitionCases",
+              "timed_sem_taken : (frame : Frame) (result : Dest) (s sem : ℕ) → (offered ≡ true → nat_lt 0 (slice_index shared.counts sem) ≡ true)",
+              "timed_sem_taken : (frame : Frame) (result : Dest) (s sem : ℕ) → (offered ≡ true → true ≡ true)"),
+             ("OfferedChoices",
+              "let above : Bool = nat_lt 0 (slice_index shared.counts sem) in",
+              "let above : Bool = true in"))),
+    Machine("a_time_out_answers_without_its_mutex", "CondLaw", "waits/WaitSteps", "CondCalls",
+            "(what.Acquired m ∷ what.Answer caller.CondTimedWait ETIMEDOUT ∷ [])) { writes = (result, ETIMEDOUT) ∷ []; shared = Some (shared_action.OwnMutex m id) }",
+            "(what.Answer caller.CondTimedWait ETIMEDOUT ∷ [])) { writes = (result, ETIMEDOUT) ∷ [] }",
+            ("TransitionCases",
+             "(what.Acquired m ∷ what.Answer caller.CondTimedWait ETIMEDOUT ∷ [])) { writes = (result, ETIMEDOUT) ∷ []; shared = Some (shared_action.OwnMutex m t.id) })",
+             "(what.Answer caller.CondTimedWait ETIMEDOUT ∷ [])) { writes = (result, ETIMEDOUT) ∷ [] })")),
+    Machine("a_time_out_owns_no_mutex", "SharedLaw", "SharedChanges", "CondCalls",
+            "{ writes = (result, ETIMEDOUT) ∷ []; shared = Some (shared_action.OwnMutex m id) }",
+            "{ writes = (result, ETIMEDOUT) ∷ [] }",
+            ("TransitionCases",
+             "{ writes = (result, ETIMEDOUT) ∷ []; shared = Some (shared_action.OwnMutex m t.id) })",
+             "{ writes = (result, ETIMEDOUT) ∷ [] })")),
+    Machine("a_time_out_does_not_wait_for_its_mutex", "WakeLaw", "OwnWaits", "CondCalls",
+            "expires c m = record (acts (what.WaitExpired c ∷ [])) { own = Some (own_action.SetStatus (status.Reacquire c m cause.TimedOut)) }",
+            "expires c m = record (acts (what.WaitExpired c ∷ [])) { own = Some (own_action.SetStatus status.Running) }",
+            ("TransitionCases",
+             "(record (acts (what.WaitExpired c ∷ [])) { own = Some (own_action.SetStatus (status.Reacquire c m cause.TimedOut)) })",
+             "(record (acts (what.WaitExpired c ∷ [])) { own = Some (own_action.SetStatus status.Running) })")),
+    # pthread_cond_wait counts as a wait with a time.
+    Machine("the_time_of_an_untimed_wait_expires", "CondLaw", "waits/WaitSteps", "Formats",
+            "is_timed (statement.CondTimedWait result c m) = true",
+            "is_timed (statement.CondTimedWait result c m) = true\nis_timed (statement.CondWait c m) = true"),
+    Machine("a_sem_timedwait_takes_as_it_times_out", "SharedLaw", "SharedChanges", "SemCalls",
+            "(what.Answer caller.SemTimedWait ETIMEDOUT ∷ [])) { writes = (result, ETIMEDOUT) ∷ [] }",
+            "(what.Answer caller.SemTimedWait ETIMEDOUT ∷ [])) { writes = (result, ETIMEDOUT) ∷ []; shared = Some (shared_action.SetCount s (count - 1)) }",
+            ("TransitionCases",
+             "(what.Answer caller.SemTimedWait ETIMEDOUT ∷ [])) { writes = (result, ETIMEDOUT) ∷ [] })",
+             "(what.Answer caller.SemTimedWait ETIMEDOUT ∷ [])) { writes = (result, ETIMEDOUT) ∷ []; shared = Some (shared_action.SetCount sem (slice_index shared.counts sem - 1)) })")),
     Machine("atexit_registers_nothing", "SharedLaw", "SharedChanges", "Actions",
             "shared_after (Some (shared_action.AddExit f)) s = record s { exit_functions = f ∷ s.exit_functions }",
             "shared_after (Some (shared_action.AddExit f)) s = s"),
@@ -188,6 +224,12 @@ MACHINES = (
             ("TransitionCases",
              "{ writes = (d, v) ∷ []; named = Some (named_action.EndJoin id) }",
              "{ writes = (d, 0) ∷ []; named = Some (named_action.EndJoin id) }")),
+    Machine("a_time_out_stores_nothing", "ResultLaw", "results/StoredResults", "CondCalls",
+            "{ writes = (result, ETIMEDOUT) ∷ []; shared = Some (shared_action.OwnMutex m id) }",
+            "{ shared = Some (shared_action.OwnMutex m id) }",
+            ("TransitionCases",
+             "{ writes = (result, ETIMEDOUT) ∷ []; shared = Some (shared_action.OwnMutex m t.id) })",
+             "{ shared = Some (shared_action.OwnMutex m t.id) })")),
     Machine("waitpid_stores_0", "ResultLaw", "results/StoredResults", "ForkCalls",
             "{ writes = (result, 0) ∷ (value, status) ∷ []; process = Some (process_action.Reap pid) }",
             "{ writes = (result, 0) ∷ (value, 0) ∷ []; process = Some (process_action.Reap pid) }",
@@ -287,16 +329,18 @@ def errors(folder):
 def tried(machine, folder):
     """Why the machine is not refused as it should be, or None, and the files in which its proofs fail."""
     changes = [(folder / SPECS, machine.file, machine.line, machine.wrong)]
-    changes += [(folder / CASES, *change) for change in (machine.case, machine.offer) if change]
-    texts = {}
+    changes += [(folder / CASES, *change) for change in (machine.case, machine.offer, *machine.others) if change]
+    texts, changed = {}, {}
     for parent, file, line, wrong in changes:
         path = parent / f"{file}.antt"
-        texts[path] = path.read_text()
-        if texts[path].count(line) != 1:
+        texts.setdefault(path, path.read_text())
+        text = changed.get(path, texts[path])
+        if text.count(line) != 1:
             return f"{file}.antt has no such line, or more than one", []
+        changed[path] = text.replace(line, wrong)
     try:
-        for (path, text), (_, _, line, wrong) in zip(texts.items(), changes):
-            path.write_text(text.replace(line, wrong))
+        for path, text in changed.items():
+            path.write_text(text)
         found = errors(folder)
     finally:
         for path, text in texts.items():

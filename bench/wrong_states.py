@@ -360,6 +360,92 @@ class ReturnsWithoutMutex(World):
         return events
 
 
+class TimesOutWithoutMutex(World):
+    def when_unblocked(self, process, thread, number):
+        _, _, mutex, why = thread.status
+        owner = process.owners[mutex]
+        events = super().when_unblocked(process, thread, number)
+        if why == "time":
+            process.owners[mutex] = owner
+        return events
+
+
+class TimesOutAtOnce(World):
+    def expire(self, process, thread):
+        if thread.status[0] == "sem":
+            return super().expire(process, thread)
+        cond = thread.status[1]
+        self.returns(process, thread, *self.result_of(thread, 4))
+        return [("expire", cond), ("answer", "pthread_cond_timedwait", "4")]
+
+
+class TimeOutStoresNothing(World):
+    def result_of(self, thread, number):
+        return [] if number else super().result_of(thread, number)
+
+
+class TimedWaitStoresNo0(World):
+    def result_of(self, thread, number):
+        return super().result_of(thread, number or 4)
+
+
+class SignalTimesOut(World):
+    def when_unblocked(self, process, thread, number):
+        if thread.status[3] == "signal" and self.result_of(thread, 0):
+            thread.status = (*thread.status[:3], "time")
+        return super().when_unblocked(process, thread, number)
+
+
+class TimeOutGives0(World):
+    def when_unblocked(self, process, thread, number):
+        if thread.status[3] == "time":
+            thread.status = (*thread.status[:3], "signal")
+        return super().when_unblocked(process, thread, number)
+
+
+class TimeExpiresOfAll(World):
+    def expire(self, process, thread):
+        others = self.waiters(process, thread.status[1])
+        events = super().expire(process, thread)
+        for other in others:
+            if other is not thread:
+                self.wake(other, "time")
+        return events
+
+
+class TimeExpiresForNobody(World):
+    def expire(self, process, thread):
+        status = thread.status
+        events = super().expire(process, thread)
+        if status[0] == "waiting":
+            thread.status = status
+        return events
+
+
+class TimeOutTakes(World):
+    def expire(self, process, thread):
+        if thread.status[0] == "sem":
+            process.counts[thread.status[1]] += 1
+        return super().expire(process, thread)
+
+
+class TimesOutWithACount(World):
+    def when_sem(self, process, thread, number):
+        if self.result_of(thread, 0):
+            return self.expire(process, thread)
+        return super().when_sem(process, thread, number)
+
+
+class ExpiredHandsOn(World):
+    """A thread whose time has expired counts as unblocked by a signal as it acts."""
+
+    def act(self, process, thread, number):
+        if thread.status[0] == "unblocked" and thread.status[3] == "time" and self.waiters(process, thread.status[1]):
+            number = self.waiters(process, thread.status[1])[0].tid
+            thread.status = (*thread.status[:3], "signal")
+        return super().act(process, thread, number)
+
+
 class AtexitRegistersNothing(World):
     def at_atexit(self, process, thread, words, number):
         self.returns(process, thread, (words[1], 0))
@@ -472,6 +558,17 @@ MACHINES = (
     ("WakeUps", "is unblocked, with the mutex", HandedToNobody),
     ("WakeUps", "waits on its operands", WaitReturnsAtOnce),
     ("WakeUps", "waits on its operands", WaitIsForgotten),
+    ("WakeUps", "leaves it, and goes for its mutex", TimesOutAtOnce),
+    ("WakeUps", "leaves it, and goes for its mutex", TimeExpiresForNobody),
+    ("WakeUps", "stays as it is without a signal", TimeExpiresOfAll),
+    ("WakeUps", "ETIMEDOUT exactly if", SignalTimesOut),
+    ("WakeUps", "ETIMEDOUT exactly if", TimeOutGives0),
+    ("WakeUps", "only while the count is 0", TimesOutWithACount),
+    ("WakeUps", "hands the signal on", ExpiredHandsOn),
+    ("Results", "the DEST of", TimeOutStoresNothing),
+    ("Results", "the DEST of", TimedWaitStoresNo0),
+    ("Registrations", "owners and counts", TimesOutWithoutMutex),
+    ("Registrations", "owners and counts", TimeOutTakes),
     ("Registrations", "owners and counts", ReturnsWithoutMutex),
     ("Registrations", "atexit makes its function the newest", AtexitRegistersNothing),
     ("Registrations", "atexit makes its function the newest", AtexitRegistersLast),

@@ -19,7 +19,7 @@ first_difference() {
             if (!stage) stage = $0 == "%%"
             else if (/^schedule /) stage = 2
             else if (stage == 2) is_whole = is_whole || /^end /
-            else if ($0 == "report 1") { is_report = 1; count = 0 }
+            else if (/^report [12]$/) { is_report = 1; count = 0 }
             else if (is_report && /^[0-9]+\.[0-9]+ /) report[++count] = $0
             next
         }

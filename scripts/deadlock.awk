@@ -45,6 +45,7 @@ function pending_at(t) {
 
 # Why nothing ends a wait.
 function reason_of(t, wait,   word, key) {
+    if (is_timed(t)) return "a schedule of format 1 has no \047expire\047: under it the time of no wait expires"
     split(wait, word, " ")
     if (word[1] == "mutex") return on_mutex(t, mutex_of(wait), next_of[t])
     if (word[1] == "condition") return on_condition(t, word[3], process_of(t) " " word[3])
@@ -55,6 +56,9 @@ function reason_of(t, wait,   word, key) {
     if (word[1] == "a") return "nothing ends this wait: scripts have no signals"
     return ""
 }
+
+# Whether a thread is in a wait whose time has not expired. Under format 2 it is no deadlock, since the time may expire.
+function is_timed(t) { return statement[t] ~ /^(pthread_cond|sem)_timedwait / && wait_of[t] ~ /^(condition|semaphore) / }
 
 function mutex_of(wait,   word) {
     split(wait, word, " ")
@@ -105,7 +109,8 @@ function show_cycle(   i, t, seen, start, text) {
 
 function find_cause(t,   found, held_by) {
     held_by = wait_of[t] ~ /^mutex / ? next_of[t] : ""
-    if (held_by == t) found = "own_lock"
+    if (is_timed(t)) found = "no_expiry"
+    else if (held_by == t) found = "own_lock"
     else if (held_by in ended && !is_canceled[held_by]) found = "ended_owner"
     else if (held_by in ended) found = unlocking_handler(held_by, mutex_of(wait_of[t])) == "" ? "canceled_owner" : ""
     else if (t in is_joined && pending_at(t) != "") found = cancelability[t] ~ /^disable/ ? "pending_disabled" : "pending_lock"
@@ -114,4 +119,4 @@ function find_cause(t,   found, held_by) {
     if (found != "" && (cause == "" || rank(found) < rank(cause))) cause = found
 }
 
-function rank(name) { return index("canceled_owner ended_owner own_lock pending_lock pending_disabled waiting_owner no_signal", name) }
+function rank(name) { return index("no_expiry canceled_owner ended_owner own_lock pending_lock pending_disabled waiting_owner no_signal", name) }

@@ -211,7 +211,7 @@ explain_deadlock() {
 }
 
 explain_budget() {
-    budget=$(LC_ALL=C sed -n '/^schedule /{s/^schedule 1 \([0-9]*\) .*/\1/p;q;}' "$folder/report")
+    budget=$(LC_ALL=C sed -n '/^schedule /{s/^schedule [12] \([0-9]*\) .*/\1/p;q;}' "$folder/report")
     if [ -n "$is_seen" ]; then
         explain_by budget budget="$budget" "$folder/script" "$folder/trace" "$folder/choices"
     else

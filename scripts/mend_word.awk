@@ -31,8 +31,9 @@ function fault_of_comparison(is_loop, sign) {
 }
 
 # The first word without the syntax of C.
-function keyword(   w) {
-    w = word[1]
+function keyword() { return keyword_of(word[1]) }
+
+function keyword_of(w) {
     sub(/[^A-Za-z0-9_].*$/, "", w)
     return w
 }
@@ -66,6 +67,7 @@ function fault_of_address(w,   i) {
 function fault_of_syntax(   i) {
     for (i = 2; i <= words; i++) if (is_operator(word[i]) && keyword() ~ /^(if|while)$/) return fault_of_operator(word[i])
     if (word[1] ~ /^pthread_create[^A-Za-z0-9_]/) return "pthread_create"
+    if (is_timed()) return "timed_wait"
     return plain_line() == "" ? "form" : "syntax"
 }
 
@@ -74,6 +76,7 @@ function fault_of_count(w,   i, part, parts) {
     if (w == "sem" && words == 2) return keep("missing_count")
     if (w == "fn" && words == 2) return keep("missing_parameter")
     if (w == "pthread_create" && words == 4) return keep(word[3] in declared ? "create_result" : "pthread_create")
+    if (is_timed()) return keep("timed_wait")
     for (i = 1; i <= forms[w]; i++) {
         parts = split(form[w, i], part, " ")
         if (parts != words + 1) continue
@@ -91,6 +94,7 @@ function keep(name) {
 # Of a name that is not declared as a kind.
 function fault_of_name(w, kind,   other) {
     if (first[line_declaring(w)] == "fn" && word[1] ~ /^pthread_(join|detach|cancel)$/) return "thread_name"
+    if (is_timed() && kind != "function" && first[line_declaring(w)] ~ /^(mutex|cond|sem)$/) return "timed_wait"
     if (word[1] == "pthread_cond_wait" && first[line_declaring(word[2])] == "mutex" && first[line_declaring(word[3])] == "cond") return "other_order"
     if (w in declared) return ""
     if (w in local_in) return kind == "variable" ? "local_elsewhere" : ""
@@ -99,6 +103,8 @@ function fault_of_name(w, kind,   other) {
     if (kind == "semaphore") return "undeclared_sem"
     return "undeclared_" (kind == "function" ? "fn" : kind)
 }
+
+function is_timed() { return keyword_of(word[1]) ~ /^(pthread_cond|sem)_timedwait$/ }
 
 # ---- the line as it should be
 
@@ -128,6 +134,18 @@ function line_in_form(its, part, parts,   place, i, line, w) {
     return line
 }
 
+# The line of a wait with a time, by the names in it that are declared, and others as an example.
+function timed_line(   all, part, parts, i, name) {
+    all = word[1] " " rest_of_line()
+    gsub(/[^A-Za-z0-9_]/, " ", all)
+    parts = split(all, part, " ")
+    for (i = parts; i > 1; i--) name[first[line_declaring(part[i])]] = part[i]
+    for (i = parts; i > 1; i--) if (is_declared(part[i], "DEST") && !is_number(part[i])) name["result"] = part[i]
+    all = part[1] " " ("result" in name ? name["result"] : "-")
+    if (part[1] == "sem_timedwait") return all " " ("sem" in name ? name["sem"] : "s")
+    return all " " ("cond" in name ? name["cond"] : "c") " " ("mutex" in name ? name["mutex"] : "m")
+}
+
 # The line of an assignment, or nothing.
 function assignment_line(   all, name, value) {
     all = word[1] rest_of_line()
@@ -155,6 +173,7 @@ function line_of_words(   i, all) {
 
 function mended_line() {
     if (fault == "assignment") return assignment_line()
+    if (fault == "timed_wait") return timed_line()
     return fault == "syntax" ? plain_line() : line_of_words()
 }
 

@@ -35,8 +35,8 @@ show_given() {
 explain_order() {
     IFS= read -r line <"$input"
     case ${line%"$carriage_return"} in
-        'report 1') given=report ;;
-        'schedule 1 '*) given=schedule ;;
+        'report '[12]) given=report ;;
+        'schedule '[12]' '*) given=schedule ;;
         *) return 1 ;;
     esac
     case $1 in

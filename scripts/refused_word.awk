@@ -199,6 +199,7 @@ function on_argument(   i, w, place, habit) {
     if (place !~ /^[A-Z]+[?]?$/) return known(w == "joinable" ? w : plain_line() == "" ? "one_of" : "syntax", w) quoted(w) " is in the place of " choices_at(word[1], i) "."
     habit = on_habit(w)
     if (habit != "") return habit
+    if (is_timed()) known("timed_wait", w)
     return quoted(w) " is in the place of " meaning_of(place) "."
 }
 

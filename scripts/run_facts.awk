@@ -99,7 +99,7 @@ function note_wait(word,   key) {
         delete owner[key]
         released[key] = this_step_of()
     }
-    if (word[1] == "call" && word[2] == "pthread_cond_wait") began[who] = steps
+    if (word[1] == "call" && word[2] ~ /^pthread_cond_(timed)?wait$/) began[who] = steps
     if (word[1] == "post") posted[key] = this_step_of()
     if (word[1] != "signal" && word[1] != "broadcast") return
     signaled[key] = this_step_of()

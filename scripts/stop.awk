@@ -25,8 +25,8 @@ function sentence_on(stop) {
     if (stop == "not_joinable") return on_detached(process "." value_of(word[2]))
     if (stop ~ /^(join_twice|detach_joined)$/) return on_joiner(value_of(word[2]))
     if (stop == "key_id") return on_key(word[1] == "pthread_getspecific" ? word[3] : word[2])
-    if (stop == "not_owner") return on_owner(word[1] == "pthread_cond_wait" ? word[3] : word[2])
-    if (stop == "cond_two_mutexes") return on_other_wait(word[2])
+    if (stop == "not_owner") return on_owner(word[1] == "pthread_mutex_unlock" ? word[2] : word[words])
+    if (stop == "cond_two_mutexes") return on_other_wait(word[words - 1])
     if (stop == "async_call") return "the cancelability type of thread " who " is asynchronous since " type_since[who]
     if (stop == "enable_in_handler") return who in called ? "thread " who " is in " called[who] : ""
     if (stop ~ /^(exit|fork)_in_ending$/) return who in ending ? "thread " who " " ending[who] (who in called ? ", and is in " called[who] : "") : ""
@@ -123,7 +123,7 @@ function on_owner(m,   key, holder) {
 }
 
 function on_other_wait(c,   t) {
-    for (t in is_in) if (t != who && process_of(t) == process && (is_in[t] ",") ~ "^in pthread_cond_wait " c " " && is_in[t] !~ /unblocked|acts/)
+    for (t in is_in) if (t != who && process_of(t) == process && (is_in[t] ",") ~ "^in pthread_cond_(timed)?wait " c " " && is_in[t] !~ /unblocked|acts/)
         return "thread " t " is " is_in[t] " since step " began[t]
     return ""
 }

@@ -1,6 +1,7 @@
 -- Words that do not ask for more than one worker and an input have one answer at the most, since a seed has one schedule.
-use Rattle.pct_names.proofs.Names.{◌<◌, ap, code_of_verdict, Config, Entry, length, List, None, none-some, Option, refl, report, Run, run}
-use Rattle.pct_names.proofs.Names.{RunOptions, Script, script_part, Some, some_pair_parts, Spells, subst, sym, verdict_of, ℕ, ◌∙◌, ◌≡◌}
+use Rattle.pct_names.proofs.Names.{◌<◌, ap, code_of_verdict, Config, config_for, Entry, length, List, None, none-some, Option, refl, report}
+use Rattle.pct_names.proofs.Names.{Run, run, RunOptions, Script, script_part, Some, some_pair_parts, Spells, subst, sym, verdict_of, ℕ, ◌∙◌}
+use Rattle.pct_names.proofs.Names.{◌≡◌}
 use Rattle.pct_grammar.proofs.Scripts.{spells_one_script}
 use Rattle.pct_scheduled_run.specs.SeedSchedules.{SeedSchedule}
 use Rattle.pct_scheduled_run.proofs.OneSchedule.{seed_schedule_is_one}
@@ -23,10 +24,11 @@ run_below_five script config entries (Some after) (Some told) code text is =
 module _ (words : List (List ℕ)) (input : List ℕ) (script : Script) (spelled : Spells (script_part words input) script) where
   -- the report of a `run` with one worker has the schedule of the seed
   seeded : (options : RunOptions) (schedule : List Entry) (code : ℕ) (text : List ℕ) → by_job (Some (job.Run options)) input schedule script ≡ Some (code, text)
-      → (code < 5 → IsReportOf (Some (job.Run options)) words input schedule code text) → options.workers ≡ 1 → SeedSchedule script options.config options.seed options.turns schedule
+      → (code < 5 → IsReportOf (Some (job.Run options)) words input schedule code text) → options.workers ≡ 1 → SeedSchedule script (config_for script options.config) options.seed options.turns schedule
   seeded options schedule code text is reports lone =
-      let closed = (reports (run_below_five script options.config schedule (run script options.config schedule) (report script options.config schedule) code text is)).0 in
-      subst (λ (s : Script). SeedSchedule s options.config options.seed options.turns schedule) (spells_one_script _ closed.script script closed.spelled spelled) (closed.worked.lone lone)
+      let config : Config = config_for script options.config in
+      let closed = (reports (run_below_five script config schedule (run script config schedule) (report script config schedule) code text is)).0 in
+      subst (λ (s : Script). SeedSchedule s (config_for s options.config) options.seed options.turns schedule) (spells_one_script _ closed.script script closed.spelled spelled) (closed.worked.lone lone)
 
   answer_of_job : (asked : Option Job) (one other : List Entry) (code other_code : ℕ) (text other_text : List ℕ)
       → by_job asked input one script ≡ Some (code, text) → by_job asked input other script ≡ Some (other_code, other_text)
@@ -35,9 +37,9 @@ module _ (words : List (List ℕ)) (input : List ℕ) (script : Script) (spelled
       → (code ≡ other_code) × (text ≡ other_text)
   answer_of_job (Some (job.Run options)) one other code other_code text other_text a b reports other_reports lone =
       let same =
-      seed_schedule_is_one script options.config options.seed options.turns one other
+      seed_schedule_is_one script (config_for script options.config) options.seed options.turns one other
       (seeded options one code text a reports (lone options refl)) (seeded options other other_code other_text b other_reports (lone options refl)) in
-      some_pair_parts code other_code text other_text (sym a ∙ ap (λ (xs : List Entry). run_of script options.config xs) same ∙ b)
+      some_pair_parts code other_code text other_text (sym a ∙ ap (λ (xs : List Entry). run_of script (config_for script options.config) xs) same ∙ b)
   answer_of_job _ one other code other_code text other_text a b reports other_reports lone = some_pair_parts code other_code text other_text (sym a ∙ b)
 
 pub answer_is_one : AnswersAreOne

@@ -1,7 +1,7 @@
 -- Words, an input and a schedule have one outcome at the most.
-use Rattle.pct_names.proofs.Names.{ap, asks_demo, Bool, canon, code_of_verdict, Config, default_config, Demonstrates, Entry, Err, false}
-use Rattle.pct_names.proofs.Names.{Fault, first_fault, first_illegal, generated_text, is_asked, is_some, IsCountedRun, le-ltb, le_refl}
-use Rattle.pct_names.proofs.Names.{length, line_text, List, nat_lt, needs_input, None, none-some, Ok, Option, option_map, Outcome}
+use Rattle.pct_names.proofs.Names.{ap, asks_demo, Bool, canon, code_of_verdict, Config, config_for, default_config, Demonstrates, Entry}
+use Rattle.pct_names.proofs.Names.{Err, false, Fault, first_fault, first_illegal, generated_text, is_asked, is_some, IsCountedRun, le-ltb}
+use Rattle.pct_names.proofs.Names.{le_refl, length, line_text, List, nat_lt, needs_input, None, none-some, Ok, Option, option_map, Outcome}
 use Rattle.pct_names.proofs.Names.{points_text, refl, refused_entry, refused_input, refused_schedule, refused_script, refused_words, report}
 use Rattle.pct_names.proofs.Names.{Run, run, same_Some, sched_of, Schedule, schedule_part, Script, script_part, Some, some_pair_parts}
 use Rattle.pct_names.proofs.Names.{Spells, subst, summary_of, sym, take-length, true, verdict_of, ℕ, ◌∙◌, ◌≡◌, ◌≤◌}
@@ -63,7 +63,7 @@ by_schedule script (Ok given) = by_illegal (first_illegal script given.0 given.1
 
 -- of a script, by the job that the words name
 abbrev pub by_job : Option Job → List ℕ → List Entry → Script → Option (ℕ × List ℕ)
-by_job (Some (job.Run options)) input schedule script = run_of script options.config schedule
+by_job (Some (job.Run options)) input schedule script = run_of script (config_for script options.config) schedule
 by_job (Some job.Replay) input schedule script = by_schedule script (sched_of (schedule_part input))
 by_job (Some job.Check) input schedule script = Some (0, canon script)
 by_job (Some job.Points) input schedule script = None
@@ -140,7 +140,7 @@ found words input schedule code text (outcome.Replayed o) =
 found words input schedule code text (outcome.Ran o) =
     spelled words (job.Run o.options) input schedule o.script code text o.accepted (has_input words (job.Run o.options) o.accepted tt) o.fits
     (subst (λ (part : List ℕ). Spells part o.script) (sym (part_of_run words input o.options o.accepted)) o.spelled)
-    (ran o.script o.options.config schedule o.after code text o.is_run o.text_is o.code_is)
+    (ran o.script (config_for o.script o.options.config) schedule o.after code text o.is_run o.text_is o.code_is)
 found words input schedule code text (outcome.Checked o) =
     spelled words job.Check input schedule o.script code text o.accepted tt o.fits
     (subst (λ (part : List ℕ). Spells part o.script) (sym (part_of_check words input o.accepted)) o.spelled)

@@ -1,10 +1,10 @@
 -- What is answered is an outcome.
-use Rattle.pct_names.proofs.Names.{◌<◌, [], ap, arith, canon, code_of_verdict, Config, default_config, demo_number, Entry, Err, false}
-use Rattle.pct_names.proofs.Names.{first_illegal, FirstFault, generated_text, is_accepted, is_asked, keyword_text, length, line_text, List}
-use Rattle.pct_names.proofs.Names.{needs_input, Ok, Option, option_map, option_map_or, Outcome, ParseWhy, points_text, refl, refused_entry}
-use Rattle.pct_names.proofs.Names.{refused_input, refused_schedule, refused_script, refused_words, report, report_of, Run, run_options}
-use Rattle.pct_names.proofs.Names.{RunOptions, sched_of, schedule_part, ScheduleWhy, Script, script_part, Some, Spells, subst, summary_of}
-use Rattle.pct_names.proofs.Names.{sym, true, Verdict, verdict_of, ℕ, ◌∙◌, ◌∷◌, ◌≡◌, ◌≢◌, ◌≤◌}
+use Rattle.pct_names.proofs.Names.{◌<◌, [], ap, arith, canon, code_of_verdict, Config, config_for, default_config, demo_number, Entry, Err}
+use Rattle.pct_names.proofs.Names.{false, first_illegal, FirstFault, generated_text, is_accepted, is_asked, keyword_text, length, line_text}
+use Rattle.pct_names.proofs.Names.{List, needs_input, Ok, Option, option_map, option_map_or, Outcome, ParseWhy, points_text, refl}
+use Rattle.pct_names.proofs.Names.{refused_entry, refused_input, refused_schedule, refused_script, refused_words, report, report_of, Run}
+use Rattle.pct_names.proofs.Names.{run_options, RunOptions, sched_of, schedule_part, ScheduleWhy, Script, script_part, Some, Spells, subst}
+use Rattle.pct_names.proofs.Names.{summary_of, sym, true, Verdict, verdict_of, ℕ, ◌∙◌, ◌∷◌, ◌≡◌, ◌≢◌, ◌≤◌}
 use Rattle.pct_model.specs.declared.stop.Verdict.TheVariants as verdict
 use Rattle.pct_model.specs.declared.keyword.Keyword.TheVariants as keyword
 use Rattle.pct_demo.specs.CountedRuns.{IsCountedEngine}
@@ -19,7 +19,7 @@ use Rattle.pct_command.specs.declared.words.Job.{Job}
 use Rattle.pct_command.specs.declared.words.Job.TheVariants.{Run as run_job, Replay, Check, Points, Demo}
 use Rattle.pct_command.specs.Status.{code_of}
 use Rattle.pct_command.specs.Words.{Asks, job_asked}
-use Rattle.pct_command.specs.Command.{IsClosedRun, IsReplayed, IsLawful, IsReportOf, IsAnswer}
+use Rattle.pct_command.specs.Command.{IsClosedRun, IsReplayed, IsLawful, IsReportOf, IsAnswer, options_for}
 use Rattle.pct_command.specs.Answer.{HasScript, status_of_verdict, verdict_of_run, text_of_run, summary_of_run, code_of_answer}
 use Rattle.pct_command.proofs.AskedWords.{names_job, part_of_run, part_of_check, replay_asks_replay}
 
@@ -72,9 +72,9 @@ replay-outcome words input schedule engine after asked has read is_run =
       text_is = run-report engine after is_run;
     })
 
--- an engine with the configuration of a `run` with these options
+-- an engine with the configuration of a `run` with these options, and the format of the script
 abbrev pub with_options : RunOptions → Script → List Entry → EngineValue
-with_options options script entries = record { script = script; config = options.config; history = entries }
+with_options options script entries = record { script = script; config = config_for script options.config; history = entries }
 
 run-outcome : (words : List (List ℕ)) (input : List ℕ) (options : RunOptions) (script : Script) (entries : List Entry) (after : Run)
     → run_options words ≡ Some options → HasScript words input script → IsRunOf (with_options options script entries) after
@@ -133,14 +133,14 @@ closed_code (verdict.Undefined why) closed e = absurd (omega (arith, e))
 closed_code verdict.Open closed e = closed refl
 
 run-with_options : (words : List (List ℕ)) (input : List ℕ) (options : RunOptions) (script : Script) (entries : List Entry)
-    → run_options words ≡ Some options → HasScript words input script → WorkersSchedule script options entries
+    → run_options words ≡ Some options → HasScript words input script → WorkersSchedule script (options_for script options) entries
     → IsAnswer words input (code_of_answer (answer.Ran (with_options options script entries))) (text_of_run (with_options options script entries))
 run-with_options words input options script entries asked has worked =
     let engine : EngineValue = with_options options script entries in
     let whole = worked.whole in
     let read_back = read-back engine whole.after whole.is_run in
     let closed : ¬ (verdict_of_run engine ≡ verdict.Open) = λ is_open. whole.is_closed (sym (run-verdict engine whole.after whole.is_run) ∙ is_open) in
-    let closed_run : IsClosedRun options words input entries (code_of_answer (answer.Ran engine)) (text_of_run engine) = record { read_back = read_back; script = script; spelled = has.spelled; worked = worked; closed = closed_code (verdict_of_run engine) closed } in
+    let closed_run : IsClosedRun options words input entries (code_of_answer (answer.Ran engine)) (text_of_run engine) = record { script = script; spelled = has.spelled; read_back = read_back; worked = worked; closed = closed_code (verdict_of_run engine) closed } in
     record {
       schedule = entries;
       is_outcome = run-outcome words input options script entries whole.after asked has whole.is_run;
@@ -150,16 +150,16 @@ run-with_options words input options script entries asked has worked =
 -- a run that the workers made from an engine of the script without entries is the answer of `run`
 pub run-answer : (words : List (List ℕ)) (input : List ℕ) (script : Script) (options : RunOptions) (opened engine : EngineValue)
     → run_options words ≡ Some options → HasScript words input script → opened ≡ with_options options script []
-    → (engine.script ≡ opened.script) × (engine.config ≡ opened.config) × WorkersSchedule opened.script options engine.history
+    → (engine.script ≡ opened.script) × (engine.config ≡ opened.config) × WorkersSchedule opened.script (options_for script options) engine.history
     → IsAnswer words input (code_of_answer (answer.Ran engine)) (text_of_run engine)
 run-answer words input script options opened engine asked has opened_is made =
     let script_is : engine.script ≡ script = made.0 ∙ ap (λ (e : EngineValue). e.script) opened_is in
-    let config_is : engine.config ≡ options.config = made.1 ∙ ap (λ (e : EngineValue). e.config) opened_is in
+    let config_is : engine.config ≡ config_for script options.config = made.1 ∙ ap (λ (e : EngineValue). e.config) opened_is in
     let same : with_options options script engine.history ≡ engine =
-    ap (λ (s : Script). record engine { script = s; config = options.config }) (sym script_is)
+    ap (λ (s : Script). record engine { script = s; config = config_for script options.config }) (sym script_is)
     ∙ ap (λ (c : Config). record engine { config = c }) (sym config_is) in
     subst (λ (e : EngineValue). IsAnswer words input (code_of_answer (answer.Ran e)) (text_of_run e)) same
-    (run-with_options words input options script engine.history asked has (subst (λ (e : EngineValue). WorkersSchedule e.script options engine.history) opened_is made.2))
+    (run-with_options words input options script engine.history asked has (subst (λ (e : EngineValue). WorkersSchedule e.script (options_for script options) engine.history) opened_is made.2))
 
 replay-read : (words : List (List ℕ)) (input : List ℕ) (engine : EngineValue) (after : Run)
     → is_asked keyword.Replay words ≡ true → HasScript words input engine.script → sched_of (schedule_part input) ≡ Ok (engine.config, engine.history) → IsRunOf engine after

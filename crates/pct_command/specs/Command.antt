@@ -9,6 +9,7 @@ use Rattle.pct_model.specs.declared.script.Script.{Script}
 use Rattle.pct_model.specs.declared.schedule.Config.{Config}
 use Rattle.pct_model.specs.declared.schedule.Entry.{Entry}
 use Rattle.pct_model.specs.declared.keyword.Keyword.TheVariants as keyword
+use Rattle.pct_model.specs.Formats.{config_for}
 use Rattle.pct_model.specs.Keywords.{keyword_text}
 use Rattle.pct_model.specs.Spells.{Spells}
 use Rattle.pct_model.specs.Schedule.{sched_of}
@@ -41,13 +42,17 @@ pub record Records (failed s : Status) (before after : ℕ) : Type 0 where
 
 -- ---- what is written
 
--- the report of a `run` with these options: its configuration and its schedule are read back from the text, its schedule is one that the
--- workers may make for the script of the input, and the verdict is not `Open`
+-- the options, with the format of the script
+abbrev pub options_for : Script → RunOptions → RunOptions
+options_for script options = record options { config = config_for script options.config }
+
+-- the report of a `run` with these options and the format of the script: its configuration and its schedule are read back from the text, its
+-- schedule is one that the workers may make for the script of the input, and the verdict is not `Open`
 pub record IsClosedRun (options : RunOptions) (words : List (List ℕ)) (input : List ℕ) (schedule : List Entry) (code : ℕ) (text : List ℕ) : Type 0 where
-  pub read_back : sched_of text ≡ Ok (options.config, schedule)
   pub script : Script
   pub spelled : Spells (script_part words input) script
-  pub worked : WorkersSchedule script options schedule
+  pub read_back : sched_of text ≡ Ok (config_for script options.config, schedule)
+  pub worked : WorkersSchedule script (options_for script options) schedule
   pub closed : code ≢ 4
 
 -- `replay` of any input with the same script and the schedule of the text has this outcome

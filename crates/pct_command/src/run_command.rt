@@ -8,7 +8,7 @@ ghost use Rattle.pct_command.specs.Answer.{Answered, HasScript};
 use crate::answers::Answer;
 use pct_engine::Engine;
 use pct_io::{Gate, NoMemory};
-use pct_model::{RunOptions, Script};
+use pct_model::{Config, RunOptions, Script, format_of};
 use pct_shared::{Runtime, run_shared};
 use std::thread::Threads;
 
@@ -22,6 +22,13 @@ pub(crate) fn run_script<R: Threads + Sync, G: Gate>(
     requires workers { HasWorkers options }
     ensures { (words : List (List ℕ)) (input : List ℕ) → run_options words ≡ Asked options → HasScript words input script → Answered words input result }
 {
+    let options = RunOptions {
+        config: Config {
+            format: format_of(&script),
+            ..options.config
+        },
+        ..options
+    };
     let engine = Engine::open(runtime.alloc, script, options.config)?;
     let ran = run_shared(runtime, engine, options)?;
     Ok(Answer::Ran(ran))

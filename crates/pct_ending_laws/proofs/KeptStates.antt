@@ -1,16 +1,16 @@
 -- Every run keeps the laws of its events, and ends in a state that keeps the invariant.
 use Rattle.pct_names.proofs.Names.{◌&&◌, All-from_recursion, ap, Called, Config, Entry, false, join_point, List, made_process, made_thread}
-use Rattle.pct_names.proofs.Names.{option_and_then, option_and_then_some, Run, run, Script, Some, sym, Thread, thread_with, true, ℕ, ◌∙◌}
-use Rattle.pct_names.proofs.Names.{◌≡◌}
+use Rattle.pct_names.proofs.Names.{next_of, option_and_then, option_and_then_some, Run, run, Script, Some, sym, Thread, thread_with, true}
+use Rattle.pct_names.proofs.Names.{ℕ, ◌∙◌, ◌≡◌}
 use Rattle.pct_model.specs.declared.state.Status.TheVariants as status
-use Rattle.pct_laws.specs.Calls.{EachIsCalled, says_calls, KeepsExitFunctions, KeepsKeys}
+use Rattle.pct_laws.specs.Calls.{ChangesKeys, EachIsCalled}
 use Rattle.pct_laws.specs.CancelLaw.{acts_where_it_may, acts_at_calls, SetsCancelability}
 use Rattle.pct_laws.specs.CreationLaw.{CreatesThreads}
 use Rattle.pct_laws.specs.Ends.{each_may_begin, KeepsValues}
 use Rattle.pct_laws.specs.ForkLaw.{KeepsFork}
 use Rattle.pct_laws.specs.Kept.{IsPlainFunction, IsSuspendedInJoin}
 use Rattle.pct_laws.specs.CondLaw.{owners_allow, waits_allow, hand_ons_allow}
-use Rattle.pct_laws.specs.ResultLaw.{KeepsAnswer, StoresResults}
+use Rattle.pct_laws.specs.ResultLaw.{StoresResults}
 use Rattle.pct_laws.specs.StatementLaw.{says_statement, suspends_by_call, goes_on_by}
 use Rattle.pct_laws.specs.ValueLaw.{uses_a_key, sets_its_value, KeepsThreads}
 use Rattle.pct_thread_invariants.proofs.lift.EachAllowed.{each_both}
@@ -42,7 +42,6 @@ use Rattle.pct_cancel_laws.proofs.requests.SetCancelability.{sets_cancelability_
 use Rattle.pct_creation_laws.proofs.creations.NewProcesses.{new_processes_of_run}
 use Rattle.pct_creation_laws.proofs.creations.NewThreads.{new_threads_of_run}
 use Rattle.pct_creation_laws.proofs.forks.CalledHandlers.{fork_handlers_of_run}
-use Rattle.pct_ending_laws.proofs.results.ForkAnswers.{answers_of_run}
 use Rattle.pct_ending_laws.proofs.results.KeptVariables.{globals_of_run, locals_of_run, values_of_run}
 use Rattle.pct_ending_laws.proofs.results.OtherProcesses.{processes_of_run as other_processes_of_run}
 use Rattle.pct_ending_laws.proofs.results.SetValues.{sets_of_run}
@@ -52,10 +51,8 @@ use Rattle.pct_ending_laws.proofs.results.ValuesOfThreads.{threads_of_run}
 use Rattle.pct_join_laws.proofs.slots.LawfulCreations.{slots_of_run}
 use Rattle.pct_ending_laws.proofs.steps.CalledFunctions.{each_is_called_of_run}
 use Rattle.pct_ending_laws.proofs.steps.EndStages.{each_may_begin_of_run}
-use Rattle.pct_ending_laws.proofs.steps.KeptExitFunctions.{keeps_exit_functions_of_run}
-use Rattle.pct_ending_laws.proofs.steps.KeptKeys.{keeps_keys_of_run}
+use Rattle.pct_ending_laws.proofs.steps.KeptKeys.{changes_keys_of_run}
 use Rattle.pct_ending_laws.proofs.steps.KeptValues.{keeps_values_of_run}
-use Rattle.pct_ending_laws.proofs.steps.MadeFrames.{says_calls_of_run}
 use Rattle.pct_thread_invariants.proofs.lift.MovedThreads.{each_step}
 use Rattle.pct_ending_laws.proofs.steps.NamedWaits.{suspends_of_run, continues_of_run}
 use Rattle.pct_ending_laws.proofs.StepsOfRuns.{steps_of_run}
@@ -72,7 +69,7 @@ kept_joins_of_run script config entries r is pid tid t made here id joins =
     let one : JoinsOne p.threads tid id = (joins_of_processes script config entries r is pid p process_is).joins tid t thread_is here id joins in
     let in_process : (n : ℕ) → made_thread pid n r.world ≡ thread_with n p = λ n. ap (option_and_then (thread_with n)) process_is in
     record {
-      newest = newest_call_of_run script config entries r is pid tid t made here (Called join_point) (ap call_event joins);
+      newest = newest_call_of_run script config entries r is pid tid t made here (Called join_point) (ap (call_event (next_of script t.frames)) joins);
       target = one.target;
       made = in_process id ∙ one.made;
       here = one.here;
@@ -90,10 +87,8 @@ every_run_keeps_laws script config entries r is = record {
   ran_all = ran_all config.passes r.events (once_of_run script config entries r is) (processes_of_run script config entries r is);
   after_end = after_end_of_run script config entries r is;
   calls = record {
-    called = each_step script config (EachIsCalled script) (each_is_called_of_run script config) entries;
-    said = each_step script config (λ s. says_calls script s ≡ true) (says_calls_of_run script config) entries;
-    exits = each_step script config (KeepsExitFunctions script) (keeps_exit_functions_of_run script config) entries;
-    made_keys = each_step script config KeepsKeys (keeps_keys_of_run script config) entries;
+    called = each_step script config EachIsCalled (each_is_called_of_run script config) entries;
+    changed_keys = each_step script config (ChangesKeys script) (changes_keys_of_run script config) entries;
     keys = keys_law_of_run script config entries r is;
   };
   ends = record {
@@ -113,10 +108,7 @@ every_run_keeps_laws script config entries r is = record {
     suspended = each_step script config (λ s. suspends_by_call script s ≡ true) (suspends_of_run script config) entries;
     continued = each_step script config (λ s. goes_on_by s.before.status s.events ≡ true) (continues_of_run script config) entries;
   };
-  results = record {
-    results = each_step script config (StoresResults script) (results_of_run script config) entries;
-    answers = each_step script config (KeepsAnswer script) (answers_of_run script config) entries;
-  };
+  results = each_step script config (StoresResults script) (results_of_run script config) entries;
   values = record {
     keys = each_step script config (λ s. uses_a_key script s ≡ true) (uses_of_run script config) entries;
     set = each_step script config (λ s. sets_its_value script s ≡ true) (sets_of_run script config) entries;
@@ -131,7 +123,7 @@ every_run_keeps_laws script config entries r is = record {
   forks = each_step script config (KeepsFork script) (fork_handlers_of_run script config) entries;
   joins = joins_of_run script config entries r is;
   conds = each_both (λ e earlier. owners_allow e earlier && waits_allow e earlier) hand_ons_allow r.events (each_both owners_allow waits_allow r.events (owners_of_run script config entries r is) (waits_of_run script config entries r is)) (hand_ons_of_run script config entries r is);
-  wakes = wake_law script config entries (each_step script config (λ s. says_statement config.slots script s ≡ true) (says_statements_of_run script config) entries);
+  wakes = wake_law script config entries;
   shared = shared_law script config entries;
   creations = slots_of_run script config entries r is;
   processes = processes_of_run script config entries r is;

@@ -10,7 +10,7 @@ use Rattle.pct_names.proofs.Names.{transition_by, true, value_at, value_of, What
 use Rattle.pct_names.proofs.Names.{◌≡◌, ◌≢◌}
 use mathlib.Core.Bool.{or-false}
 use Rattle.std.proofs.Common.{eqb-true, ne_eqb}
-use Rattle.std.proofs.lemmas.Bool.{true≢false, eq-eqb}
+use Rattle.std.proofs.lemmas.Bool.{true≢false}
 use Rattle.pct_laws.specs.Each.{each}
 use Rattle.pct_laws.specs.KeysLaw.{allows}
 use Rattle.pct_laws.specs.Kept.{EachProcess, KeysKept}
@@ -66,7 +66,7 @@ key_set keys i j q within = by_place (nat_eq i j) refl
     by_place false differs = key_set_other keys i j q (eqb-false i j differs)
 
 -- after a key was made on a place
-key_made_at : (keys : List KeyPlace) (i k : ℕ) (destructor : Option ℕ) (j : ℕ) → i < length keys → key_at (with_key i k destructor keys) j ≡ cond (nat_eq i j) (Some (record { number = k; destructor = destructor })) (key_at keys j)
+pub key_made_at : (keys : List KeyPlace) (i k : ℕ) (destructor : Option ℕ) (j : ℕ) → i < length keys → key_at (with_key i k destructor keys) j ≡ cond (nat_eq i j) (Some (record { number = k; destructor = destructor })) (key_at keys j)
 key_made_at keys i k destructor j within = by_found (slice_get keys i) refl
   where
     by_found : (found : Option KeyPlace) → slice_get keys i ≡ found → key_at (option_map_or (λ p. set keys i (record { made = p.made + 1; key = Some (record { number = k; destructor = destructor }) })) found keys) j ≡ cond (nat_eq i j) (Some (record { number = k; destructor = destructor })) (key_at keys j)
@@ -74,7 +74,7 @@ key_made_at keys i k destructor j within = by_found (slice_get keys i) refl
     by_found (Some p) is = key_set keys i j (record { made = p.made + 1; key = Some (record { number = k; destructor = destructor }) }) within
 
 -- after the key on a place was deleted, if there was one
-key_deleted_at : (keys : List KeyPlace) (i j : ℕ) (key : Key) → key_at keys i ≡ Some key → key_at (without_key i keys) j ≡ cond (nat_eq i j) None (key_at keys j)
+pub key_deleted_at : (keys : List KeyPlace) (i j : ℕ) (key : Key) → key_at keys i ≡ Some key → key_at (without_key i keys) j ≡ cond (nat_eq i j) None (key_at keys j)
 key_deleted_at keys i j key at = by_found (slice_get keys i) refl at
   where
     by_found : (found : Option KeyPlace) → slice_get keys i ≡ found → option_and_then (λ (p : KeyPlace). p.key) found ≡ Some key → key_at (option_map_or (λ p. set keys i (record p { key = None })) found keys) j ≡ cond (nat_eq i j) None (key_at keys j)
@@ -97,14 +97,8 @@ module _ (script : Script) (keys : List KeyPlace) (kept : KeysKept script keys) 
   new_place_free = ap (λ (i : ℕ). is_none (key_at keys i)) new_place ∙ of.passes
 
   -- it is one of the places
-  new_place_within : key_place k < length keys
+  pub new_place_within : key_place k < length keys
   new_place_within = subst (λ (i : ℕ). i < length keys) (sym new_place) (subst (λ (m : ℕ). of.item < m) (sym kept.places) of.low)
-
-  -- after a key was made with the number, it is on the place of the number
-  pub key_made_on_place : (destructor : Option ℕ) → key_at (with_key (key_place k) k destructor keys) (key_place k) ≡ Some (record { number = k; destructor = destructor })
-  key_made_on_place destructor =
-      let made : Option Key = Some (record { number = k; destructor = destructor }) in
-      key_made_at keys (key_place k) k destructor (key_place k) new_place_within ∙ ap (λ (same : Bool). cond same made (key_at keys (key_place k))) (eq-eqb (key_place k) (key_place k) refl)
 
 -- ---- one number
 
@@ -124,11 +118,6 @@ found_on n (Some key) some = by_test (nat_eq key.number n) refl some
     by_test : (same : Bool) → nat_eq key.number n ≡ same → is_none (cond same (Some key) None) ≡ false → (found : Key) × (Some key ≡ Some found) × (found.number ≡ n)
     by_test true same some = (key, refl, eqb-true key.number n same)
     by_test false differs some = absurd (true≢false some)
-
--- after the key with a number was deleted, no key is on the place of the number
-pub no_key_on_place : (n : ℕ) (keys : List KeyPlace) (key : Key) → key_at keys (key_place n) ≡ Some key → key_at (without_key (key_place n) keys) (key_place n) ≡ None
-no_key_on_place n keys key at =
-    key_deleted_at keys (key_place n) (key_place n) key at ∙ ap (λ (same : Bool). cond same None (key_at keys (key_place n))) (eq-eqb (key_place n) (key_place n) refl)
 
 -- a number, after a key was made on a place where none was
 number_made : (k n : ℕ) (destructor : Option ℕ) (found : Option Key) (same : Bool) → (same ≡ true → is_none found ≡ true) → (same ≡ false → nat_eq k n ≡ false)
@@ -220,7 +209,7 @@ module _ (script : Script) (config : Config) where
     o = transition_by script config w p t e.alt
 
     abbrev environment : Environment
-    environment = environment_of config.slots w p t.id
+    environment = environment_of config w p t.id
 
     -- the case of its transition
     its_case : TransitionCase config.passes (body_at script t.frames) p.shared t environment true (next_of script t.frames) t.status o

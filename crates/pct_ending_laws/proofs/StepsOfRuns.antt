@@ -1,12 +1,11 @@
 -- Each entry of the schedule of a run is legal at its turn, and makes a step.
-use Rattle.pct_names.proofs.Names.{◌&&◌, ◌+◌, ◌++◌, [], and_from, ap, arith, Bool, cond, Config, Entry, event_of, false, is_config, is_some, Legal, length, List, map}
-use Rattle.pct_names.proofs.Names.{nat_le, None, none-some, opening, Option, option_and_then, option_and_then_some, option_map, refl, reverse, Run, run, run_from, run_step}
+use Rattle.pct_names.proofs.Names.{◌&&◌, ◌++◌, [], and_from, ap, arith, Bool, cond, Config, Entry, event_of, false, is_config, is_some, Legal, length, List, map}
+use Rattle.pct_names.proofs.Names.{nat_le, None, none-some, Option, option_and_then, option_and_then_some, option_map, refl, reverse, Run, run, run_from, run_step}
 use Rattle.pct_names.proofs.Names.{Script, Some, step, subst, Successor, sym, true, ◌∙◌, ◌∷◌, ◌≡◌, ◌≤◌}
-use Rattle.std.proofs.lemmas.Bool.{leb-true, le-leb, and_parts}
+use Rattle.std.proofs.lemmas.Bool.{leb-true, le-leb}
 use Rattle.std.proofs.lemmas.List.{length-append}
-use Rattle.std.proofs.lemmas.Option.{cond_some}
 use Rattle.pct_model.proofs.LegalSteps.{some_step_legal}
-use Rattle.pct_laws.specs.ThreadSteps.{ThreadStep, IsThreadStep, EachHasStep}
+use Rattle.pct_laws.specs.ThreadSteps.{EachHasStep}
 use Rattle.pct_thread_invariants.proofs.lift.MovedThreads.{step_of, makes_step}
 use Rattle.pct_thread_invariants.proofs.lift.TakenSteps.{first_run}
 

@@ -3,7 +3,6 @@ pub mod NamedVariables
 pub mod Stores
 pub mod KeptVariables
 pub mod StoredResults
-pub mod ForkAnswers
 pub mod SetValues
 pub mod UsedKeys
 pub mod ValuesOfThreads

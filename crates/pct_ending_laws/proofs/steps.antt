@@ -1,7 +1,5 @@
 -- The laws of a step: what each step of a run does to the thread that makes it.
-pub mod MadeFrames
 pub mod CalledFunctions
-pub mod KeptExitFunctions
 pub mod KeptKeys
 pub mod EndStages
 pub mod KeptValues

@@ -73,9 +73,9 @@ module _ (program : ProgramValue) (trace : TraceValue) (machine : Seen) (stands 
       none_if_closed (Some e) legal closed = absurd (closed ((goes_on_while_open program.script program.config trace.history after e is).0 (goes_on e legal)).0)
 
       -- else the entry that is chosen is that of the scheduler, and it is legal
-      pub choice_after : (answer : Option Entry) → answer ≡ seen_chosen program.script program.config.slots machine worker a b → IfSome answer (λ e. is_some (legal_transition program.script program.config machine e) ≡ true) → IsChoice engine after worker a b answer
+      pub choice_after : (answer : Option Entry) → answer ≡ seen_chosen program.script program.config machine worker a b → IfSome answer (λ e. is_some (legal_transition program.script program.config machine e) ≡ true) → IsChoice engine after worker a b answer
       choice_after answer chosen legal = record {
-        scheduled = λ going. chosen ∙ ap (λ (v : Seen). seen_chosen program.script program.config.slots v worker a b) state_after ∙ sym (chosen_is_seen program.script program.config after.world worker a b some_slots);
+        scheduled = λ going. chosen ∙ ap (λ (v : Seen). seen_chosen program.script program.config v worker a b) state_after ∙ sym (chosen_is_seen program.script program.config after.world worker a b some_slots);
         legal = λ going.
             let some : is_some answer ≡ true = ap is_some chosen ∙ open_chooses program.script program.config machine (length trace.history) worker a b (verdict_after (length trace.history) ∙ going) in
             some_and answer (λ (e : Entry). is_some (legal_transition program.script program.config machine e) ≡ true) (IsRunWith engine) some goes_on legal;

@@ -1,9 +1,9 @@
 -- While the verdict is `Open`, the scheduler chooses an entry.
 use Rattle.pct_names.proofs.Names.{◌%◌, ◌++◌, ◌<◌, [], All, All-append, All-map, All-nil, Alt, and_parts, ap, arith, Bool, Candidate, cond}
-use Rattle.pct_names.proofs.Names.{Config, Entry, entry_for, false, false≢true, Family, filter, filter_passes, get_or, is_enabled, is_none}
-use Rattle.pct_names.proofs.Names.{is_some, item_at, length, length-map, List, list_all, list_any, map, nat_eq, None, not, not-true, Option}
-use Rattle.pct_names.proofs.Names.{option_and_then, option_map, refl, Script, slice_get-get_or, Some, Thread, true, Why, ◌||◌, ℕ, ◌∙◌, ◌∷◌}
-use Rattle.pct_names.proofs.Names.{◌≡◌}
+use Rattle.pct_names.proofs.Names.{Config, Entry, entry_for, false, false≢true, Family, filter, filter_passes, get_or, has_timeouts}
+use Rattle.pct_names.proofs.Names.{is_enabled, is_none, is_some, item_at, length, length-map, List, list_all, list_any, map, nat_eq, None}
+use Rattle.pct_names.proofs.Names.{not, not-true, Option, option_and_then, option_map, refl, Script, slice_get-get_or, Some, Thread, true}
+use Rattle.pct_names.proofs.Names.{Why, ◌||◌, ℕ, ◌∙◌, ◌∷◌, ◌≡◌}
 use Rattle.std.proofs.Common.{length-append}
 use Rattle.std.specs.List.{flat_map}
 use Rattle.pct_model.specs.declared.stop.Verdict.TheVariants as verdict
@@ -34,33 +34,33 @@ some_left p (x ∷ xs) some = either (p x) some (some_left p xs) where
 abbrev HasChoice : Candidate → Type 0
 HasChoice c = is_enabled c.choices ≡ true
 
-module _ (script : Script) (slots : ℕ) (seen_by : ℕ → Family) where
+module _ (script : Script) (timeouts : Bool) (slots : ℕ) (seen_by : ℕ → Family) where
   abbrev ready_here : SeenProcess → List Candidate
-  ready_here p = map (candidate_in script slots (seen_by p.pid) p) (ready_in script slots (seen_by p.pid) p)
+  ready_here p = map (candidate_in script timeouts slots (seen_by p.pid) p) (ready_in script timeouts slots (seen_by p.pid) p)
 
   -- each has a choice
   each_here : (p : SeenProcess) → All HasChoice (ready_here p)
-  each_here p = All-map HasChoice (candidate_in script slots (seen_by p.pid) p) (ready_in script slots (seen_by p.pid) p) (by (is_some p.ended)) where
-    by : (b : Bool) → All (λ t. HasChoice (candidate_in script slots (seen_by p.pid) p t)) (cond b [] (filter (is_ready_in script slots (seen_by p.pid) p) (threads_on p.slots)))
-    by true = All-nil (λ t. HasChoice (candidate_in script slots (seen_by p.pid) p t))
-    by false = filter_passes (is_ready_in script slots (seen_by p.pid) p) (threads_on p.slots)
+  each_here p = All-map HasChoice (candidate_in script timeouts slots (seen_by p.pid) p) (ready_in script timeouts slots (seen_by p.pid) p) (by (is_some p.ended)) where
+    by : (b : Bool) → All (λ t. HasChoice (candidate_in script timeouts slots (seen_by p.pid) p t)) (cond b [] (filter (is_ready_in script timeouts slots (seen_by p.pid) p) (threads_on p.slots)))
+    by true = All-nil (λ t. HasChoice (candidate_in script timeouts slots (seen_by p.pid) p t))
+    by false = filter_passes (is_ready_in script timeouts slots (seen_by p.pid) p) (threads_on p.slots)
 
   each_of : (ps : List SeenProcess) → All HasChoice (flat_map ready_here ps)
   each_of [] = All-nil HasChoice
   each_of (p ∷ ps) = All-append HasChoice (ready_here p) (flat_map ready_here ps) (each_here p) (each_of ps)
 
   -- a process has one, if it has not ended and a thread is ready
-  some_here : (p : SeenProcess) → has_ready_in script slots (seen_by p.pid) p ≡ true → 0 < length (ready_here p)
+  some_here : (p : SeenProcess) → has_ready_in script timeouts slots (seen_by p.pid) p ≡ true → 0 < length (ready_here p)
   some_here p has =
-      let parts = and_parts (not (is_some p.ended)) (list_any (is_ready_in script slots (seen_by p.pid) p) (threads_on p.slots)) has in
-      let ready : List Thread = filter (is_ready_in script slots (seen_by p.pid) p) (threads_on p.slots) in
-      let here : length (ready_here p) ≡ length ready = length-map (ready_in script slots (seen_by p.pid) p) (candidate_in script slots (seen_by p.pid) p) ∙ ap (λ b. length (cond b [] ready)) (not-true (is_some p.ended) parts.0) in
-      omega (arith, here, some_left (is_ready_in script slots (seen_by p.pid) p) (threads_on p.slots) parts.1)
+      let parts = and_parts (not (is_some p.ended)) (list_any (is_ready_in script timeouts slots (seen_by p.pid) p) (threads_on p.slots)) has in
+      let ready : List Thread = filter (is_ready_in script timeouts slots (seen_by p.pid) p) (threads_on p.slots) in
+      let here : length (ready_here p) ≡ length ready = length-map (ready_in script timeouts slots (seen_by p.pid) p) (candidate_in script timeouts slots (seen_by p.pid) p) ∙ ap (λ b. length (cond b [] ready)) (not-true (is_some p.ended) parts.0) in
+      omega (arith, here, some_left (is_ready_in script timeouts slots (seen_by p.pid) p) (threads_on p.slots) parts.1)
 
-  some_of : (ps : List SeenProcess) → list_any (λ p. has_ready_in script slots (seen_by p.pid) p) ps ≡ true → 0 < length (flat_map ready_here ps)
+  some_of : (ps : List SeenProcess) → list_any (λ p. has_ready_in script timeouts slots (seen_by p.pid) p) ps ≡ true → 0 < length (flat_map ready_here ps)
   some_of [] some = absurd (false≢true some)
-  some_of (p ∷ ps) some = either (has_ready_in script slots (seen_by p.pid) p) refl some (some_of ps) where
-    either : (b : Bool) → has_ready_in script slots (seen_by p.pid) p ≡ b → (b || list_any (λ p. has_ready_in script slots (seen_by p.pid) p) ps) ≡ true → (list_any (λ p. has_ready_in script slots (seen_by p.pid) p) ps ≡ true → 0 < length (flat_map ready_here ps)) → 0 < length (ready_here p ++ flat_map ready_here ps)
+  some_of (p ∷ ps) some = either (has_ready_in script timeouts slots (seen_by p.pid) p) refl some (some_of ps) where
+    either : (b : Bool) → has_ready_in script timeouts slots (seen_by p.pid) p ≡ b → (b || list_any (λ p. has_ready_in script timeouts slots (seen_by p.pid) p) ps) ≡ true → (list_any (λ p. has_ready_in script timeouts slots (seen_by p.pid) p) ps ≡ true → 0 < length (flat_map ready_here ps)) → 0 < length (ready_here p ++ flat_map ready_here ps)
     either true has some rest = omega (arith, some_here p has, length-append (ready_here p) (flat_map ready_here ps))
     either false has some rest = omega (arith, rest some, length-append (ready_here p) (flat_map ready_here ps))
 
@@ -72,18 +72,18 @@ by_tests true dead full is = absurd cc
 by_tests false false full is = absurd cc
 by_tests false true full is = refl
 
-open_says : (stop : Option Why) (script : Script) (config : Config) (v : Seen) (n : ℕ) → seen_verdict_by stop script config v n ≡ verdict.Open → (is_none stop ≡ true) × (list_any (λ p. has_ready_in script config.slots (family_in v p.pid) p) v.processes ≡ true)
+open_says : (stop : Option Why) (script : Script) (config : Config) (v : Seen) (n : ℕ) → seen_verdict_by stop script config v n ≡ verdict.Open → (is_none stop ≡ true) × (list_any (λ p. has_ready_in script (has_timeouts config.format) config.slots (family_in v p.pid) p) v.processes ≡ true)
 open_says (Some why) script config v n is = absurd cc
 open_says None script config v n is =
-    (refl, by_tests (list_all (λ p. is_some p.ended) v.processes) (list_any (λ p. has_ready_in script config.slots (family_in v p.pid) p) v.processes) (nat_eq n config.budget) is)
+    (refl, by_tests (list_all (λ p. is_some p.ended) v.processes) (list_any (λ p. has_ready_in script (has_timeouts config.format) config.slots (family_in v p.pid) p) v.processes) (nat_eq n config.budget) is)
 
-pub open_chooses : (script : Script) (config : Config) (v : Seen) (n worker a b : ℕ) → seen_verdict script config v n ≡ verdict.Open → is_some (seen_chosen script config.slots v worker a b) ≡ true
+pub open_chooses : (script : Script) (config : Config) (v : Seen) (n worker a b : ℕ) → seen_verdict script config v n ≡ verdict.Open → is_some (seen_chosen script config v worker a b) ≡ true
 unfolding seen_verdict seen_candidates
 open_chooses script config v n worker a b is =
     let says = open_says v.stop script config v n is in
-    let thread = item HasChoice (seen_candidates script config.slots v) a (some_of script config.slots (family_in v) v.processes says.1) (each_of script config.slots (family_in v) v.processes) in
+    let thread = item HasChoice (seen_candidates script config v) a (some_of script (has_timeouts config.format) config.slots (family_in v) v.processes says.1) (each_of script (has_timeouts config.format) config.slots (family_in v) v.processes) in
     let choice = item (λ c. Unit {0}) thread.0.choices b (some_choice thread.0.choices thread.2) (λ k d inside. tt) in
     let entry : Alt → Entry = λ c. record { worker = worker; pid = thread.0.pid; tid = thread.0.tid; alt = c } in
-    ap (λ t. is_some (cond t (option_and_then (entry_for worker b) (item_at (seen_candidates script config.slots v) a)) None)) says.0
+    ap (λ t. is_some (cond t (option_and_then (entry_for worker b) (item_at (seen_candidates script config v) a)) None)) says.0
     ∙ ap (λ (o : Option Candidate). is_some (option_and_then (entry_for worker b) o)) thread.1
     ∙ ap (λ (o : Option Alt). is_some (option_map (λ (c : Alt). entry c) o)) choice.1

@@ -1,9 +1,10 @@
 -- What a thread sees of the others depends only on what is kept of the state.
 use Rattle.pct_names.proofs.Names.{◌&&◌, ◌+◌, ◌++◌, ◌<◌, [], ap, body_at, Bool, by_slot, choices_at, choices_of, cond, Config, Environment}
-use Rattle.pct_names.proofs.Names.{environment_of, false, family_among, family_of, filter, flat_map, flat_map-map, free_ids, has_valid_id}
-use Rattle.pct_names.proofs.Names.{holds_slot, is_free, is_joined_by_one, is_joining, is_last, is_on, is_unreaped, length, List, list_all}
-use Rattle.pct_names.proofs.Names.{list_any, map, nat_eq, next_id, next_of, not, option_and_then, Process, range_with_len, refl, Relative}
-use Rattle.pct_names.proofs.Names.{Script, slot_of, suc, sym, Thread, true, waiters_among, with_id, World, zero, ◌||◌, ℕ, ◌∙◌, ◌∷◌, ◌≡◌}
+use Rattle.pct_names.proofs.Names.{environment_of, false, family_among, family_of, filter, flat_map, flat_map-map, free_ids, has_timeouts}
+use Rattle.pct_names.proofs.Names.{has_valid_id, holds_slot, is_free, is_joined_by_one, is_joining, is_last, is_on, is_unreaped, length}
+use Rattle.pct_names.proofs.Names.{List, list_all, list_any, map, nat_eq, next_id, next_of, not, option_and_then, Process, range_with_len}
+use Rattle.pct_names.proofs.Names.{refl, Relative, Script, slot_of, suc, sym, Thread, true, waiters_among, with_id, World, zero, ◌||◌, ℕ}
+use Rattle.pct_names.proofs.Names.{◌∙◌, ◌∷◌, ◌≡◌}
 use Rattle.std.proofs.Common.{eqb-true, eq-eqb}
 use Rattle.pct_engine_laws.specs.Seen.{SeenSlot, seen_slot, seen_process, seen, threads_on, is_last_in, relative_in, family_in}
 use Rattle.pct_engine_laws.specs.SeenSteps.{thread_on, thread_with, is_joined_in, is_empty, new_id_on, new_ids_from, environment_in}
@@ -114,9 +115,10 @@ pub family_seen : (slots pid : ℕ) (w : World) → family_of w pid ≡ family_i
 family_seen slots pid w = ap (λ (relatives : List Relative). family_among (length w.processes) relatives pid) (sym (map-map relative_in (seen_process slots) (filter is_unreaped w.processes)))
 
 -- what the thread with an id of a process sees of the others
-pub environment_seen : (slots tid : ℕ) (w : World) (p : Process) → 0 < slots → environment_of slots w p tid ≡ environment_in slots (family_in (seen slots w) p.pid) (seen_process slots p).slots tid
+pub environment_seen : (config : Config) (tid : ℕ) (w : World) (p : Process) → 0 < config.slots → environment_of config w p tid ≡ environment_in (has_timeouts config.format) config.slots (family_in (seen config.slots w) p.pid) (seen_process config.slots p).slots tid
 unfolding environment_of environment_in
-environment_seen slots tid w p some =
+environment_seen config tid w p some =
+    let slots : ℕ = config.slots in
     let threads : List Thread = p.threads in
     let rows : List SeenSlot = by_index (seen_slot slots threads) slots in
     let named : (id : ℕ) → with_id id threads ≡ thread_with slots id rows = λ id. sym (thread_seen slots id threads some) in
@@ -126,8 +128,8 @@ environment_seen slots tid w p some =
     let waiting : (c : ℕ) → waiters_among c (by_slot slots threads) ≡ waiters_among c (threads_on rows) = λ c. sym (ap (waiters_among c) (threads_seen slots threads)) in
     let last : is_last tid threads ≡ is_last_in tid rows = last_seen slots tid threads some in
     let family : family_of w p.pid ≡ family_in (seen slots w) p.pid = family_seen slots p.pid w in
-    λ i. record { named = λ id. named id i; another_joins = λ id. joined id i; new_ids = ids i; waiters = λ c. waiting c i; is_last = last i; family = family i }
+    λ i. record { named = λ id. named id i; another_joins = λ id. joined id i; new_ids = ids i; waiters = λ c. waiting c i; is_last = last i; family = family i; timeouts = has_timeouts config.format }
 
 -- the choices of a thread of a process
-pub choices_seen : (script : Script) (config : Config) (w : World) (p : Process) (t : Thread) → 0 < config.slots → choices_of script config w p t ≡ choices_in script config.slots (family_in (seen config.slots w) p.pid) (seen_process config.slots p) t
-choices_seen script config w p t some = ap (λ (environment : Environment). choices_at (body_at script t.frames) p.shared t environment (next_of script t.frames) t.status) (environment_seen config.slots t.id w p some)
+pub choices_seen : (script : Script) (config : Config) (w : World) (p : Process) (t : Thread) → 0 < config.slots → choices_of script config w p t ≡ choices_in script (has_timeouts config.format) config.slots (family_in (seen config.slots w) p.pid) (seen_process config.slots p) t
+choices_seen script config w p t some = ap (λ (environment : Environment). choices_at (body_at script t.frames) p.shared t environment (next_of script t.frames) t.status) (environment_seen config t.id w p some)

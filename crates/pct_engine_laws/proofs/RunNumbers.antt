@@ -26,7 +26,7 @@ use Rattle.pct_engine_laws.proofs.WhatTransitionsMake.{Creates, MakesWith, trans
 use Rattle.pct_engine_laws.proofs.ProcessNumbers.{AreNumbered, numbered_after, numbered_then, new_pid_is_next, child_pid, made_by}
 use Rattle.pct_engine_laws.proofs.ThreadChanges.{transition_keeps, inherited_id}
 use Rattle.pct_transition_cases.proofs.OfferedChoices.{Offered, may_go, may_act, may_create, may_make_key, may_pick, may_hand_on}
-use Rattle.pct_transition_cases.proofs.OfferedChoices.{may_destroy, offered_of}
+use Rattle.pct_transition_cases.proofs.OfferedChoices.{may_destroy, offered_of, may_expire}
 
 -- ---- the numbers of a process
 
@@ -104,12 +104,13 @@ case_within limit shared t environment waiting ids made left (may_create frame r
 case_within limit shared t environment waiting ids made left (may_make_key frame result key destructor n among) = all_among (λ (k : ℕ). k ≤ limit) n (new_keys shared.keys) made among
 case_within limit shared t environment waiting ids made left (may_pick frame c n among) = waiter_among (λ (k : ℕ). k ≤ limit) n (environment.waiters c) (waiting c) among
 case_within limit shared t environment waiting ids made left (may_hand_on next c m n enabled among) = waiter_among (λ (k : ℕ). k ≤ limit) n (environment.waiters c) (waiting c) among
+case_within limit shared t environment waiting ids made left (may_expire next s timed expires before) = tt
 case_within limit shared t environment waiting ids made left (may_destroy next k none among) = all_among (λ (n : ℕ). n ≤ limit) k (left_keys shared.keys t.specific) left among
 
 module _ (script : Script) (config : Config) (w : World) (p : Process) (t : Thread) (choice : Alt) (n : ℕ) (slots : config.slots ≤ 64) (has : HasFew n p.pid p.threads p.shared.keys) (offered : offers (choices_of script config w p t) choice ≡ true) where
   -- what it sees of the others
   abbrev environment : Environment
-  environment = environment_of config.slots w p t.id
+  environment = environment_of config w p t.id
 
   ids_within : All (λ (id : ℕ). id ≤ 64 + 64 * n) environment.new_ids
   unfolding environment_of
@@ -310,6 +311,7 @@ choice_more limit more (alt.Act n) within small = omega (arith, within, small)
 choice_more limit more (alt.New n) within small = omega (arith, within, small)
 choice_more limit more (alt.Pick n) within small = omega (arith, within, small)
 choice_more limit more (alt.Dtor n) within small = omega (arith, within, small)
+choice_more limit more alt.Expire within small = tt
 
 entry_more : (limit more : ℕ) (e : Entry) → limit ≤ more → IsEntryWithin limit e → IsEntryWithin more e
 entry_more limit more e within small = record { worker = small.worker; pid = omega (arith, within, small.pid); tid = omega (arith, within, small.tid); choice = choice_more limit more e.alt within small.choice }

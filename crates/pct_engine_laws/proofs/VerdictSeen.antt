@@ -1,8 +1,8 @@
 -- The verdict depends only on what is kept of the state.
 use Rattle.pct_names.proofs.Names.{◌&&◌, ◌<◌, Alt, ap, Bool, Budget, Complete, cond, Config, Deadlock, filter, has_ended, has_ready}
-use Rattle.pct_names.proofs.Names.{holds_slot, is_enabled, is_ready, is_some, List, list_all, list_all-map, list_any, map, nat_eq, None}
-use Rattle.pct_names.proofs.Names.{not, Open, Option, option_map, or-true, Process, ProcessEnd, refl, Script, Some, sym, Thread, Verdict}
-use Rattle.pct_names.proofs.Names.{verdict_by, verdict_of, was_reaped, Why, World, ◌||◌, ℕ, ◌∙◌, ◌≡◌}
+use Rattle.pct_names.proofs.Names.{has_timeouts, holds_slot, is_enabled, is_ready, is_some, List, list_all, list_all-map, list_any, map}
+use Rattle.pct_names.proofs.Names.{nat_eq, None, not, Open, Option, option_map, or-true, Process, ProcessEnd, refl, Script, Some, sym}
+use Rattle.pct_names.proofs.Names.{Thread, Verdict, verdict_by, verdict_of, was_reaped, Why, World, ◌||◌, ℕ, ◌∙◌, ◌≡◌}
 use mathlib.Core.Bool.{and-false}
 use Rattle.pct_engine_laws.specs.Seen.{SeenProcess, seen_process, seen, threads_on, family_in}
 use Rattle.pct_engine_laws.specs.SeenSteps.{is_ready_in, has_ready_in, seen_verdict_by, seen_verdict}
@@ -16,19 +16,19 @@ ready_by None ready ready_in e = e
 ready_by (Some end) ready ready_in e = and-false (not end.reaped)
 
 -- a process has a thread that is ready
-pub ready_seen : (script : Script) (config : Config) (w : World) (p : Process) → 0 < config.slots → (not (was_reaped p.ended) && has_ready_in script config.slots (family_in (seen config.slots w) p.pid) (seen_process config.slots p)) ≡ has_ready script config w p
+pub ready_seen : (script : Script) (config : Config) (w : World) (p : Process) → 0 < config.slots → (not (was_reaped p.ended) && has_ready_in script (has_timeouts config.format) config.slots (family_in (seen config.slots w) p.pid) (seen_process config.slots p)) ≡ has_ready script config w p
 ready_seen script config w p some =
     let kept : SeenProcess = seen_process config.slots p in
-    let ready : Thread → Bool = is_ready_in script config.slots (family_in (seen config.slots w) p.pid) kept in
+    let ready : Thread → Bool = is_ready_in script (has_timeouts config.format) config.slots (family_in (seen config.slots w) p.pid) kept in
     ready_by p.ended (list_any (is_ready script config w p) p.threads) (list_any ready (threads_on kept.slots))
     (ap (list_any ready) (threads_seen config.slots p.threads)
     ∙ any_by_slot config.slots ready p.threads some
     ∙ any_agree (λ t. holds_slot t && ready t) (is_ready script config w p) (λ t. ap (λ (choices : List Alt). holds_slot t && is_enabled choices) (sym (choices_seen script config w p t some))) p.threads)
 
 -- some process has a thread that is ready
-pub some_ready_seen : (script : Script) (config : Config) (w : World) → 0 < config.slots → list_any (λ p. has_ready_in script config.slots (family_in (seen config.slots w) p.pid) p) (seen config.slots w).processes ≡ list_any (has_ready script config w) w.processes
+pub some_ready_seen : (script : Script) (config : Config) (w : World) → 0 < config.slots → list_any (λ p. has_ready_in script (has_timeouts config.format) config.slots (family_in (seen config.slots w) p.pid) p) (seen config.slots w).processes ≡ list_any (has_ready script config w) w.processes
 some_ready_seen script config w some =
-    let ready : SeenProcess → Bool = λ p. has_ready_in script config.slots (family_in (seen config.slots w) p.pid) p in
+    let ready : SeenProcess → Bool = λ p. has_ready_in script (has_timeouts config.format) config.slots (family_in (seen config.slots w) p.pid) p in
     any-map ready (seen_process config.slots) (filter (λ p. not (was_reaped p.ended)) w.processes)
     ∙ any-filter (λ p. ready (seen_process config.slots p)) (λ p. not (was_reaped p.ended)) w.processes
     ∙ any_agree (λ p. not (was_reaped p.ended) && ready (seen_process config.slots p)) (has_ready script config w) (λ p. ready_seen script config w p some) w.processes

@@ -15,6 +15,7 @@ IsChoiceWithin limit (alt.Act n) = n ≤ limit
 IsChoiceWithin limit (alt.New n) = n ≤ limit
 IsChoiceWithin limit (alt.Pick n) = n ≤ limit
 IsChoiceWithin limit (alt.Dtor n) = n ≤ limit
+IsChoiceWithin limit alt.Expire = Unit {0}
 
 -- the worker of an entry is at most MAX_WORKER, and its other numbers are at most a limit
 pub record IsEntryWithin (limit : ℕ) (e : Entry) : Type 0 where

@@ -27,4 +27,4 @@ VerdictIsSeen = (script : Script) (config : Config) (w : World) (n : ℕ) → 0 
 
 -- the choice of the scheduler
 abbrev pub ChosenIsSeen : Type 0
-ChosenIsSeen = (script : Script) (config : Config) (w : World) (worker a b : ℕ) → 0 < config.slots → chosen script config w worker a b ≡ seen_chosen script config.slots (seen config.slots w) worker a b
+ChosenIsSeen = (script : Script) (config : Config) (w : World) (worker a b : ℕ) → 0 < config.slots → chosen script config w worker a b ≡ seen_chosen script config (seen config.slots w) worker a b

@@ -4,6 +4,5 @@ pub mod MovedFrames
 pub mod FrameCases
 pub mod BusyChoices
 pub mod BusyThreads
-pub mod OtherFrames
 pub mod HandlerFrames
 pub mod LawfulFrames

@@ -4,7 +4,6 @@ use Rattle.pct_names.proofs.Names.{Option, refl, Run, same_Some, Script, Some, S
 use Rattle.std.proofs.lemmas.Bool.{true≢false}
 use Rattle.pct_model.specs.declared.stop.Verdict.TheVariants as verdict
 use Rattle.pct_grammar.proofs.Scripts.{spells_one_script}
-use Rattle.pct_schedule.specs.Prefix.{prefix_of}
 use Rattle.pct_history.specs.Replays.{followed}
 use Rattle.pct_command.specs.Command.{Outside}
 use Rattle.pct_command.proofs.CompleteOutcomes.{given_or_fault, same_given, verdict_code}
@@ -15,7 +14,7 @@ use Rattle.pct_inspection.specs.declared.words.Inspection.TheVariants as inspect
 use Rattle.pct_inspection.specs.declared.words.View.{View}
 use Rattle.pct_inspection.specs.declared.words.View.TheVariants as view
 use Rattle.pct_inspection.specs.Words.{inspection_asked, is_inspection}
-use Rattle.pct_inspection.specs.Inspection.{script_in, prefix_in, code_by, code_after, Continues, FollowsPrefix, IsCodeOfRun, IsInspected, IsValidPrefix, IsWhole}
+use Rattle.pct_inspection.specs.Inspection.{script_in, prefix_for, code_by, code_after, Continues, FollowsPrefix, IsCodeOfRun, IsInspected, IsValidPrefix, IsWhole}
 use Rattle.pct_inspection.specs.Inspection as outcome
 use Rattle.pct_inspection.specs.Answer.{AnswersRead, status_of_answer, text_of_answer}
 
@@ -32,10 +31,10 @@ closed_code verdict.Open closed = absurd (closed refl)
 
 -- in a prefix that is valid no entry is illegal
 none_illegal : (input : List ℕ) → IsValidPrefix input → (script : Script) (config : Config) (entries : List Entry) (illegal : Option ℕ)
-    → Spells (script_in input) script → prefix_of (prefix_in input) ≡ Ok (config, entries) → first_illegal script config entries ≡ illegal → illegal ≡ None
+    → Spells (script_in input) script → prefix_for script input ≡ Ok (config, entries) → first_illegal script config entries ≡ illegal → illegal ≡ None
 none_illegal input valid script config entries illegal spelled read first =
     let same_script : script ≡ valid.script = spells_one_script _ script valid.script spelled valid.spelled in
-    let same_prefix : (config, entries) ≡ (valid.config, valid.entries) = same_given (prefix_of (prefix_in input)) (config, entries) (valid.config, valid.entries) read valid.read in
+    let same_prefix : (config, entries) ≡ (valid.config, valid.entries) = same_given (prefix_for script input) (config, entries) (valid.config, valid.entries) read (ap (λ (s : Script). prefix_for s input) same_script ∙ valid.read) in
     sym first
     ∙ ap (λ (p : Config × List Entry). first_illegal script p.0 p.1) same_prefix
     ∙ ap (λ (s : Script). first_illegal s valid.config valid.entries) same_script
@@ -76,7 +75,8 @@ not_refused words input code text accepted valid (outcome.WordsRefused refuses) 
 not_refused words input code text accepted valid (outcome.InputRefused refuses) = absurd (omega (arith, valid.fits, refuses.too_long))
 not_refused words input code text accepted valid (outcome.ScriptRefused refuses) = absurd (spelled_or_fault _ valid.script refuses.line refuses.why valid.spelled refuses.first)
 not_refused words input code text accepted valid (outcome.PrefixRefused refuses) =
-    absurd (given_or_fault (prefix_of (prefix_in input)) (valid.config, valid.entries) (refuses.line, refuses.why) valid.read refuses.first)
+    let same_script : valid.script ≡ refuses.script = spells_one_script _ valid.script refuses.script valid.spelled refuses.spelled in
+    absurd (given_or_fault (prefix_for valid.script input) (valid.config, valid.entries) (refuses.line, refuses.why) valid.read (ap (λ (s : Script). prefix_for s input) same_script ∙ refuses.first))
 not_refused words input code text accepted valid (outcome.Continued goes_on) =
     let below : code < 4 = legal_code words input code text valid goes_on in
     record { run_code = omega (arith, below); closed = λ _ _. below }

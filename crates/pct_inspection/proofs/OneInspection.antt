@@ -4,7 +4,6 @@ use Rattle.pct_names.proofs.Names.{nat_lt, None, none-some, Ok, Option, option_m
 use Rattle.pct_names.proofs.Names.{Run, run, same_Some, Schedule, Script, Some, some_pair_parts, Spells, subst, sym, true, verdict_of, ℕ, ◌∙◌, ◌≡◌, ◌≤◌}
 use Rattle.std.proofs.lemmas.Bool.{lt-ltb, true≢false}
 use Rattle.pct_grammar.proofs.Scripts.{spelled_is_faultless, spells_one_script}
-use Rattle.pct_schedule.specs.Prefix.{prefix_of}
 use Rattle.pct_script.specs.StatementLines.{statement_lines}
 use Rattle.pct_scheduled_run.specs.Streams.{draws, stream_of}
 use Rattle.pct_scheduled_run.proofs.OneSchedule.{continuation_is_one}
@@ -20,7 +19,7 @@ use Rattle.pct_inspection.specs.declared.words.Inspection.{Inspection}
 use Rattle.pct_inspection.specs.declared.words.Inspection.TheVariants as inspection
 use Rattle.pct_inspection.specs.declared.words.View.TheVariants as view
 use Rattle.pct_inspection.specs.Words.{inspection_asked, is_inspection}
-use Rattle.pct_inspection.specs.Inspection.{script_in, prefix_in, notice, code_by, asks_to_draw, Continues, FollowsPrefix, InspectionsAreOne, IsInspected, code_after, entries_in, is_drawn}
+use Rattle.pct_inspection.specs.Inspection.{script_in, prefix_for, notice, code_by, asks_to_draw, Continues, FollowsPrefix, InspectionsAreOne, IsInspected, code_after, entries_in, is_drawn}
 use Rattle.pct_inspection.specs.Inspection as outcome
 
 -- ---- the code and the text, by the order of the checks
@@ -74,15 +73,15 @@ record GoesOn (script : Script) (seed : ℕ) (given : Config × List Entry) (cod
 module _ (words : List (List ℕ)) (input : List ℕ) where
   -- what is shown of a script
   abbrev shown : Script → Option (ℕ × List ℕ)
-  shown script = shown_of (inspection_asked words) input script (prefix_of (prefix_in input))
+  shown script = shown_of (inspection_asked words) input script (prefix_for script input)
 
   -- the code and the text are these
   data Found (code : ℕ) (text : List ℕ) : Type 0 where
     Refused : refused_of words input ≡ Some (code, text) → Found code text
     Shown : refused_of words input ≡ None → (script : Script) → Spells (script_in input) script → shown script ≡ Some (code, text) → Found code text
-    Drew : refused_of words input ≡ None → (script : Script) → Spells (script_in input) script → shown script ≡ None → drawn_of script (prefix_of (prefix_in input)) ≡ Some code → asks_to_draw (inspection_asked words) ≡ true → Found code text
+    Drew : refused_of words input ≡ None → (script : Script) → Spells (script_in input) script → shown script ≡ None → drawn_of script (prefix_for script input) ≡ Some code → asks_to_draw (inspection_asked words) ≡ true → Found code text
     WentOn : refused_of words input ≡ None → (script : Script) → Spells (script_in input) script → shown script ≡ None → (seed : ℕ) → inspection_asked words ≡ Some (inspection.Continue seed)
-        → (given : Config × List Entry) → prefix_of (prefix_in input) ≡ Ok given → GoesOn script seed given code text → Found code text
+        → (given : Config × List Entry) → prefix_for script input ≡ Ok given → GoesOn script seed given code text → Found code text
 
   -- ---- every outcome is found
 
@@ -101,10 +100,10 @@ module _ (words : List (List ℕ)) (input : List ℕ) where
   none_refused script asked is fits spelled = checked true false None (ap (λ (o : Option Inspection). is_some o) is) (le-ltb 16777216 (length input) fits) (spelled_is_faultless (script_in input) script spelled)
 
   -- what is shown of words and a prefix that are known
-  shown_as : (script : Script) (asked : Inspection) (config : Config) (entries : List Entry) (illegal : Option ℕ) (after : Option Run) → inspection_asked words ≡ Some asked → prefix_of (prefix_in input) ≡ Ok (config, entries)
+  shown_as : (script : Script) (asked : Inspection) (config : Config) (entries : List Entry) (illegal : Option ℕ) (after : Option Run) → inspection_asked words ≡ Some asked → prefix_for script input ≡ Ok (config, entries)
       → first_illegal script config entries ≡ illegal → run script config (followed illegal entries) ≡ after → shown script ≡ by_run (Some asked) input script config entries illegal after
   shown_as script asked config entries illegal after is read illegal_is is_run =
-      ap (λ (o : Option Inspection). shown_of o input script (prefix_of (prefix_in input))) is
+      ap (λ (o : Option Inspection). shown_of o input script (prefix_for script input)) is
       ∙ ap (λ (s : Schedule). shown_of (Some asked) input script s) read
       ∙ ap (λ (n : Option ℕ). by_run (Some asked) input script config entries n (run script config (followed n entries))) illegal_is
       ∙ ap (λ (r : Option Run). by_run (Some asked) input script config entries illegal r) is_run
@@ -118,7 +117,7 @@ module _ (words : List (List ℕ)) (input : List ℕ) where
         ∙ ap (option_map (λ (s : List ℕ). (code_after prefix, s ++ notice prefix.illegal))) view_is ∙ these code_is text_is)
 
     -- the code of a drawing is that after the run
-    drawn_as : (prefix : FollowsPrefix input) → drawn_of prefix.script (prefix_of (prefix_in input)) ≡ Some (code_after prefix)
+    drawn_as : (prefix : FollowsPrefix input) → drawn_of prefix.script (prefix_for prefix.script input) ≡ Some (code_after prefix)
     drawn_as prefix =
         ap (drawn_of prefix.script) prefix.read
         ∙ ap (λ (n : Option ℕ). code_of_run prefix.script prefix.config prefix.entries n (run prefix.script prefix.config (followed n prefix.entries))) prefix.illegal_is
@@ -145,7 +144,7 @@ module _ (words : List (List ℕ)) (input : List ℕ) where
     -- a run that goes on
     went_on : Continues words input code text → Found code text
     went_on c = WentOn (none_refused c.script (inspection.Continue c.seed) c.asked c.fits c.spelled) c.script c.spelled
-        (ap (λ (o : Option Inspection). shown_of o input c.script (prefix_of (prefix_in input))) c.asked
+        (ap (λ (o : Option Inspection). shown_of o input c.script (prefix_for c.script input)) c.asked
         ∙ ap (λ (s : Schedule). shown_of (Some (inspection.Continue c.seed)) input c.script s) c.read
         ∙ none_shown c.script c.config c.entries c.seed (first_illegal c.script c.config c.entries) (run c.script c.config (followed (first_illegal c.script c.config c.entries) c.entries)))
         c.seed c.asked (c.config, c.entries) c.read
@@ -222,7 +221,7 @@ module _ (words : List (List ℕ)) (input : List ℕ) (code other : ℕ) (text t
   found_once (Drew _ one spells a _ _) (Shown _ also spelled b) = absurd (disagree also one spelled spells b a)
   found_once (WentOn _ one spells a _ _ _ _ _) (Shown _ also spelled b) = absurd (disagree also one spelled spells b a)
   found_once (Drew _ one spells _ a drawn) (Drew _ also spelled _ b _) = (
-    same_Some code other (sym a ∙ ap (λ (s : Script). drawn_of s (prefix_of (prefix_in input))) (spells_one_script (script_in input) one also spells spelled) ∙ b),
+    same_Some code other (sym a ∙ ap (λ (s : Script). drawn_of s (prefix_for s input)) (spells_one_script (script_in input) one also spells spelled) ∙ b),
     λ not_drawn. absurd (true≢false (sym drawn ∙ not_drawn)),
   )
   found_once (Drew _ _ _ _ _ drawn) (WentOn _ _ _ _ seed is _ _ _) = absurd (no_drawing seed drawn is)
@@ -230,7 +229,7 @@ module _ (words : List (List ℕ)) (input : List ℕ) (code other : ℕ) (text t
   found_once (WentOn _ one spells _ seed is given read a) (WentOn _ also spelled _ other_seed other_is also_given also_read b) =
       let script : one ≡ also = spells_one_script (script_in input) one also spells spelled in
       let seeds : seed ≡ other_seed = ap seed_in (sym is ∙ other_is) in
-      let same : given ≡ also_given = same_given (prefix_of (prefix_in input)) given also_given read also_read in
+      let same : given ≡ also_given = same_given (prefix_for one input) given also_given read (ap (λ (s : Script). prefix_for s input) script ∙ also_read) in
       whole (goes_on_once also other_seed also_given code other text told
       (subst (λ (s : Script). GoesOn s other_seed also_given code text) script (subst (λ (n : ℕ). GoesOn one n also_given code text) seeds (subst (λ (g : Config × List Entry). GoesOn one seed g code text) same a))) b)
 

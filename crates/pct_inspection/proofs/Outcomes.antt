@@ -2,7 +2,6 @@
 use Rattle.pct_names.proofs.Names.{◌<◌, ap, code_of_verdict, Config, Entry, Err, false, first_illegal, FirstFault, length, line_text, List}
 use Rattle.pct_names.proofs.Names.{None, Ok, Option, ParseWhy, refl, refused_input, refused_schedule, refused_script, refused_words, Run}
 use Rattle.pct_names.proofs.Names.{ScheduleWhy, Script, Some, subst, sym, verdict_of, ℕ, ◌∙◌, ◌≡◌, ◌≤◌}
-use Rattle.pct_schedule.specs.Prefix.{prefix_of}
 use Rattle.pct_engine.specs.EngineStates.{EngineValue, IsRunOf}
 use Rattle.pct_engine.proofs.EngineLaws.{keeps_laws}
 use Rattle.pct_history.specs.Replays.{followed, Follows}
@@ -12,7 +11,7 @@ use Rattle.pct_command.proofs.Outcomes.{read-back, run-code, run-report}
 use Rattle.pct_inspection.specs.declared.answer.Answer.TheVariants as answer
 use Rattle.pct_inspection.specs.declared.words.Inspection.{Inspection}
 use Rattle.pct_inspection.specs.Words.{is_inspection}
-use Rattle.pct_inspection.specs.Inspection.{script_in, prefix_in, code_by, IsInspected}
+use Rattle.pct_inspection.specs.Inspection.{script_in, prefix_for, code_by, IsInspected}
 use Rattle.pct_inspection.specs.Inspection as outcome
 use Rattle.pct_inspection.specs.Answer.{code_of_answer, text_of_answer, AsksFor, AsksToContinue, HasScript}
 use Rattle.pct_inspection.proofs.Inputs.{is_accepted}
@@ -27,7 +26,7 @@ code-is engine after (Some entry_number) is_run = refl
 
 -- a run that begins with the entries of a prefix, and goes on as a seed chooses
 continues : (words : List (List ℕ)) (input : List ℕ) (seed : ℕ) (engine : EngineValue) (entries : List Entry) (illegal : Option ℕ)
-    → AsksToContinue words seed → HasScript input engine.script → prefix_of (prefix_in input) ≡ Ok (engine.config, entries)
+    → AsksToContinue words seed → HasScript input engine.script → prefix_for engine.script input ≡ Ok (engine.config, entries)
     → first_illegal engine.script engine.config entries ≡ illegal → SeedContinuation engine.script engine.config seed (followed illegal entries) engine.history
     → IsInspected words input (code_of_answer (answer.Continued engine illegal)) (text_of_answer (answer.Continued engine illegal))
 continues words input seed engine entries illegal asked has read first continued =
@@ -59,7 +58,7 @@ continues words input seed engine entries illegal asked has read first continued
 
 -- the answer of an engine that followed the entries of a prefix, and then went on as a seed chooses
 pub continue-answer : (words : List (List ℕ)) (input : List ℕ) (seed : ℕ) (script : Script) (config : Config) (entries : List Entry) (before engine : EngineValue) (illegal : Option ℕ)
-    → AsksToContinue words seed → HasScript input script → prefix_of (prefix_in input) ≡ Ok (config, entries)
+    → AsksToContinue words seed → HasScript input script → prefix_for script input ≡ Ok (config, entries)
     → Follows script config entries before illegal → engine ≡ record before { history = engine.history } → SeedContinuation before.script before.config seed before.history engine.history
     → IsInspected words input (code_of_answer (answer.Continued engine illegal)) (text_of_answer (answer.Continued engine illegal))
 continue-answer words input seed script config entries before engine illegal asked has read follows same continued =
@@ -83,6 +82,6 @@ script-answer words input what line why asked fits first =
     outcome.ScriptRefused (record { accepted = is_accepted words what asked; fits = fits; line = line; why = why; first = first; code_is = refl; text_is = refl })
 
 pub prefix-answer : (words : List (List ℕ)) (input : List ℕ) (what : Inspection) (script : Script) (line : ℕ) (why : ScheduleWhy) → AsksFor words what → HasScript input script
-    → prefix_of (prefix_in input) ≡ Err (line, why) → IsInspected words input 7 (line_text (refused_schedule line why))
+    → prefix_for script input ≡ Err (line, why) → IsInspected words input 7 (line_text (refused_schedule line why))
 prefix-answer words input what script line why asked has first =
     outcome.PrefixRefused (record { accepted = is_accepted words what asked; fits = has.fits; script = script; spelled = has.spelled; line = line; why = why; first = first; code_is = refl; text_is = refl })

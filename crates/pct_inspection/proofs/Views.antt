@@ -1,7 +1,6 @@
 -- Views are outcomes.
 use Rattle.pct_names.proofs.Names.{◌++◌, ap, code_of_verdict, Config, Entry, Err, IfOk, inl, inr, List, None, Ok, Option, refl, Result}
 use Rattle.pct_names.proofs.Names.{Run, run, Script, Some, subst, Verdict, ℕ, ◌∙◌, ◌≡◌, ◌⊎◌}
-use Rattle.pct_schedule.specs.Prefix.{prefix_of}
 use Rattle.pct_script.specs.StatementLines.{statement_lines}
 use Rattle.pct_script.proofs.StatementSpellings.{lines_spell}
 use Rattle.pct_command.specs.Answer.{status_of_verdict}
@@ -19,7 +18,7 @@ use Rattle.pct_inspection.specs.declared.words.Form.TheVariants as form
 use Rattle.pct_inspection.specs.declared.words.Inspection.TheVariants as inspection
 use Rattle.pct_inspection.specs.declared.words.View.{View}
 use Rattle.pct_inspection.specs.declared.words.View.TheVariants as view
-use Rattle.pct_inspection.specs.Inspection.{script_in, prefix_in, notice, code_by, FollowsPrefix, code_after, IsInspected}
+use Rattle.pct_inspection.specs.Inspection.{script_in, prefix_for, notice, code_by, FollowsPrefix, code_after, IsInspected}
 use Rattle.pct_inspection.specs.Inspection as outcome
 use Rattle.pct_inspection.specs.Answer.{code_of_answer, status_by, status_of_answer, text_of_answer, Answered, AsksFor, HasScript}
 use Rattle.pct_inspection.specs.Shown.{IsInForm, ShowsState, ShowsTrace, state_text, verdict_after}
@@ -29,7 +28,7 @@ code_by_verdict : (illegal : Option ℕ) (v : Verdict) → code_of (status_by il
 code_by_verdict None v = code-is v
 code_by_verdict (Some entry_number) v = refl
 
-module _ (words : List (List ℕ)) (input : List ℕ) (script : Script) (config : Config) (entries : List Entry) (has : HasScript input script) (read : prefix_of (prefix_in input) ≡ Ok (config, entries)) where
+module _ (words : List (List ℕ)) (input : List ℕ) (script : Script) (config : Config) (entries : List Entry) (has : HasScript input script) (read : prefix_for script input ≡ Ok (config, entries)) where
   module _ (engine : EngineValue) (illegal : Option ℕ) (follows : Follows script config entries engine illegal) (after : Run) (is_run : IsRunOf engine after) where
     run_followed : run script config (followed illegal entries) ≡ Some after
     run_followed = subst (λ (e : EngineValue). IsRunOf e after) follows.engine_is is_run

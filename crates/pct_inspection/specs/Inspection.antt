@@ -12,8 +12,9 @@ use Rattle.pct_model.specs.declared.keyword.Keyword.TheVariants as keyword
 use Rattle.pct_model.specs.declared.limits.TheConstants.{MAX_INPUT}
 use Rattle.pct_model.specs.Keywords.{keyword_text, line_text}
 use Rattle.pct_model.specs.Checks.{FirstFault}
+use Rattle.pct_model.specs.Formats.{format_of}
 use Rattle.pct_model.specs.Spells.{Spells}
-use Rattle.pct_model.specs.Schedule.{replay_parts, sched_of}
+use Rattle.pct_model.specs.Schedule.{Schedule, replay_parts, sched_of}
 use Rattle.pct_model.specs.Run.{Run, run, first_illegal, verdict_of}
 use Rattle.pct_model.specs.Outcome.{code_of_verdict, refused_words, refused_input, refused_script, refused_schedule}
 use Rattle.pct_model.specs.Report.{report}
@@ -48,6 +49,11 @@ script_in input = take (replay_parts input).0 input
 -- the prefix of a schedule in an input: the part after the line `%%`, empty without such a line
 unfoldable pub prefix_in : List ℕ → List ℕ
 prefix_in input = drop (replay_parts input).1 input
+
+-- what the prefix in an input with this script is parsed to: a configuration and entries, or a fault. An empty prefix has no entry, and the
+-- default configuration with the format of the script
+abbrev pub prefix_for : Script → List ℕ → Schedule
+prefix_for script input = prefix_of (format_of script) (prefix_in input)
 
 -- ---- what is written
 
@@ -94,7 +100,7 @@ pub record RefusesPrefix (words : List (List ℕ)) (input : List ℕ) (code : �
   pub spelled : Spells (script_in input) script
   pub line : ℕ
   pub why : ScheduleWhy
-  pub first : prefix_of (prefix_in input) ≡ Err (line, why)
+  pub first : prefix_for script input ≡ Err (line, why)
   pub code_is : code ≡ 7
   pub text_is : text ≡ line_text (refused_schedule line why)
 
@@ -108,7 +114,7 @@ pub record Continues (words : List (List ℕ)) (input : List ℕ) (code : ℕ) (
   pub spelled : Spells (script_in input) script
   pub config : Config
   pub entries : List Entry
-  pub read : prefix_of (prefix_in input) ≡ Ok (config, entries)
+  pub read : prefix_for script input ≡ Ok (config, entries)
   pub illegal : Option ℕ
   pub illegal_is : first_illegal script config entries ≡ illegal
   pub schedule : List Entry
@@ -130,7 +136,7 @@ pub record FollowsPrefix (input : List ℕ) : Type 0 where
   pub spelled : Spells (script_in input) script
   pub config : Config
   pub entries : List Entry
-  pub read : prefix_of (prefix_in input) ≡ Ok (config, entries)
+  pub read : prefix_for script input ≡ Ok (config, entries)
   pub illegal : Option ℕ
   pub illegal_is : first_illegal script config entries ≡ illegal
   pub after : Run
@@ -211,7 +217,7 @@ pub record IsValidPrefix (input : List ℕ) : Type 0 where
   pub spelled : Spells (script_in input) script
   pub config : Config
   pub entries : List Entry
-  pub read : prefix_of (prefix_in input) ≡ Ok (config, entries)
+  pub read : prefix_for script input ≡ Ok (config, entries)
   pub legal : first_illegal script config entries ≡ None
 
 -- the code is that of a verdict, and with `continue` that of a run that is not open

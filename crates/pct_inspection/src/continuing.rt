@@ -8,7 +8,7 @@ use crate::answer::Answer;
 use pct_command::{Refusal, continue_seeded};
 use pct_history::{ScheduleFault, follow, read_prefix};
 use pct_io::NoMemory;
-use pct_model::Script;
+use pct_model::{Script, format_of};
 use std::alloc::Global;
 
 /// The answer of `continue` to a script and the text of a prefix.
@@ -21,7 +21,7 @@ pub(crate) fn continue_script(
     requires { length prefix.now ≤ MAX_INPUT }
     ensures { (words : List (List ℕ)) (input : List ℕ) → AsksToContinue words seed → HasParts input script prefix.now → Answered words input result }
 {
-    match read_prefix(alloc, prefix) {
+    match read_prefix(alloc, prefix, format_of(&script)) {
         Ok((config, entries)) => {
             match follow(alloc, script, config, entries.as_slice()) {
                 Ok((mut engine, illegal)) => {

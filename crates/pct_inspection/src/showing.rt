@@ -18,7 +18,7 @@ use pct_engine::Engine;
 use pct_history::{ScheduleFault, follow, read_prefix};
 use pct_io::{Failed, NoMemory};
 use pct_lanes::{Selection, lanes, picture};
-use pct_model::{Entry, Script, Verdict};
+use pct_model::{Entry, Script, Verdict, format_of};
 use pct_script::{StatementLines, statement_lines};
 use pct_view_texts::{TextBuffer, push_choices, push_states, push_trace};
 use std::alloc::Global;
@@ -55,7 +55,7 @@ pub(crate) fn show_script(
     ensures { (words : List (List ℕ)) (input : List ℕ) → AsksFor words (inspection.Show view) → HasParts input script parts.entry.prefix.now → parts.entry.text.now ≡ script_in input → Answered words input result }
 {
     let lines = statement_lines(alloc, parts.text)?;
-    match read_prefix(alloc, parts.prefix) {
+    match read_prefix(alloc, parts.prefix, format_of(&script)) {
         Ok((config, entries)) => match view {
             View::Choices | View::States => {
                 let (engine, illegal) = follow(alloc, script, config, entries.as_slice())?;

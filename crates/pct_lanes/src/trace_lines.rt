@@ -79,6 +79,15 @@ impl<'a> Step<'a> {
     pub(crate) fn word(&self, index: usize) -> &'a str {
         word_of(self.statement, index)
     }
+
+    /// The condition variable and the mutex of the statement, if it is a wait on a condition variable.
+    pub(crate) fn condition_wait(&self) -> Option<(&'a str, &'a str)> {
+        match self.word(0) {
+            "pthread_cond_wait" => Some((self.word(1), self.word(2))),
+            "pthread_cond_timedwait" => Some((self.word(2), self.word(3))),
+            _ => None,
+        }
+    }
 }
 
 /// The word of a text with this index, or nothing.

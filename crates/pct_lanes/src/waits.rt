@@ -124,11 +124,12 @@ impl<'a> Run<'a> {
         if self.leave_call(index) {
             return;
         }
-        let word = step.word(0);
-        if word == "pthread_mutex_lock" {
+        if step.word(0) == "pthread_mutex_lock" {
             self.wait_for_mutex(index, step.word(1));
-        } else if word == "pthread_cond_wait" && step.is_in_call() {
-            self.wait_for_mutex(index, step.word(2));
+        } else if step.is_in_call() {
+            if let Some((_, mutex)) = step.condition_wait() {
+                self.wait_for_mutex(index, mutex);
+            }
         }
     }
 
@@ -224,10 +225,10 @@ impl<'a> Run<'a> {
         let Some(step) = thread.at else {
             return false;
         };
-        thread.is_in_call
-            && thread.id.process == process
-            && step.word(0) == "pthread_cond_wait"
-            && step.word(1) == condition
+        let Some((waits_on, _)) = step.condition_wait() else {
+            return false;
+        };
+        thread.is_in_call && thread.id.process == process && waits_on == condition
     }
 
     /// After the last step: the threads that are suspended in a call are so up to the end.

@@ -31,7 +31,7 @@ use Rattle.pct_model.specs.StatusKinds.{is_at_cancellation_point}
 use Rattle.pct_model.specs.Run.{Run}
 use Rattle.pct_laws.specs.AfterAll.{after_all}
 use Rattle.pct_laws.specs.Each.{each}
-use Rattle.pct_laws.specs.RanAll.{begins_to_end}
+use Rattle.pct_laws.specs.RanAll.{leaves_all}
 use Rattle.pct_laws.specs.RequestsLaw as RequestsLaw
 use Rattle.pct_model.specs.World.{World}
 
@@ -74,15 +74,13 @@ acts_at_calls script s =
 -- (XSH pthread_setcancelstate, 2.9.5.3). That it is disabled as the thread begins to exit its process is a choice of this host
 abbrev pub state_after : What → State → State
 state_after (what.StateSet enable) state = state_if enable
-state_after (what.ExitBegun v) state = Disable
-state_after w state = if begins_to_end w then Disable else state
+state_after w state = if leaves_all w then Disable else state
 
 -- its type after such an event: that of a pthread_setcanceltype, and deferred as the thread begins to end (XSH pthread_setcancelstate,
 -- 2.9.5.3). That it is deferred as the thread begins to exit its process is a choice of this host
 abbrev pub mode_after : What → Mode → Mode
 mode_after (what.ModeSet asynchronous) mode = mode_if asynchronous
-mode_after (what.ExitBegun v) mode = Deferred
-mode_after w mode = if begins_to_end w then Deferred else mode
+mode_after w mode = if leaves_all w then Deferred else mode
 
 -- what a step does to the cancelability of its thread
 pub record SetsCancelability (s : ThreadStep) : Type 0 where
@@ -100,6 +98,7 @@ is_suspended (status.InWaitPid pid) = true
 is_suspended (status.Waiting c m) = true
 is_suspended (status.Reacquire c m cause.Signalled) = true
 is_suspended (status.Reacquire c m cause.Broadcast) = true
+is_suspended (status.Reacquire c m cause.TimedOut) = true
 is_suspended _ = false
 
 -- the choice is to act upon a request

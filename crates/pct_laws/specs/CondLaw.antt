@@ -1,15 +1,15 @@
 -- The law of mutexes and condition waits: a mutex is acquired while no thread owns it, and released by its owner (XSH pthread_mutex_lock); a
--- condition wait that released its mutex ends with the mutex owned again, and then pthread_cond_wait returns or, if a request was acted
--- upon, the thread begins to end, before its first cleanup handler (XSH pthread_cond_wait); and a signal is handed on by a thread that acts
--- upon a request in its wait. It speaks of the events of a run alone. That a thread returns only after a signal or a broadcast, and which
--- thread gets a signal, is not said here.
+-- condition wait that released its mutex ends with the mutex owned again, and then it returns, with ETIMEDOUT exactly if its time expired
+-- (XSH pthread_cond_timedwait), or, if a request was acted upon, the thread begins to end, before its first cleanup handler (XSH
+-- pthread_cond_wait); and a signal is handed on by a thread that acts upon a request in its wait. It speaks of the events of a run alone.
+-- That a thread returns only after a signal or a broadcast, and which thread gets a signal, is not said here.
 use Rattle.std.specs.Prelude.{ℕ, Bool, true, false, ◌&&◌, List, [], ◌∷◌, nat_eq}
 use Rattle.pct_model.specs.declared.event.Event.{Event}
 use Rattle.pct_model.specs.declared.event.What.{What}
 use Rattle.pct_model.specs.declared.event.What.TheVariants as what
 use Rattle.pct_laws.specs.KnownThreads.{is_own}
 use Rattle.pct_laws.specs.MutexOwners.{owner_of}
-use Rattle.pct_laws.specs.WaitStages.{wait_stage, may_follow_stage}
+use Rattle.pct_laws.specs.WaitStages.{wait_stage, may_follow_stage, cancels_wait_on}
 
 -- ---- owners
 
@@ -33,11 +33,6 @@ abbrev pub waits_allow : Event → List Event → Bool
 waits_allow e earlier = may_follow_stage (wait_stage e.pid e.tid earlier) e.what
 
 -- ---- signals that are handed on
-
--- the event is that a request is acted upon in a wait on condition variable c
-abbrev pub cancels_wait_on : ℕ → What → Bool
-cancels_wait_on c (what.WaitCanceled cond) = nat_eq cond c
-cancels_wait_on c _ = false
 
 -- the newest of some events is that thread tid of process pid acts upon a request in a wait on condition variable c
 abbrev pub has_just_left : (pid tid c : ℕ) → List Event → Bool

@@ -1,12 +1,14 @@
 -- The law of fork handlers: fork calls those that were registered as it was called: before it makes a process the prepare handlers, the
 -- newest first, and after that the parent handlers, and in the child the child handlers, the oldest first. It makes a process, or fails to,
--- and returns only with none of them left to call; a handler that returns leaves the fork as it was (XSH pthread_atfork, fork). That the
--- parent handlers are called also where no process is made is a choice of this host.
+-- and returns only with none of them left to call; a handler that returns leaves the fork as it was (XSH pthread_atfork, fork). The thread
+-- keeps the answer of fork, which the event gives by which a process is made or not, until its fork returns. That the parent handlers are
+-- called also where no process is made is a choice of this host.
 --
--- It leaves open whether a handler returns, and what it does.
+-- It leaves open whether a handler returns, and what it does; and where the answer is stored (ResultLaw.antt).
 use Rattle.std.specs.Prelude.{◌≡◌, ◌≢◌, ◌⊎◌, ℕ, Bool, true, false, List, [], ◌∷◌, length, take, drop, reverse, filter_map, is_some}
 use Rattle.std.specs.Prelude.{Option, Some, None, All}
 use Rattle.std.specs.List.{list_any}
+use Rattle.pct_model.specs.declared.event.Caller.TheVariants as caller
 use Rattle.pct_model.specs.declared.event.What.{What}
 use Rattle.pct_model.specs.declared.event.What.TheVariants as what
 use Rattle.pct_model.specs.declared.process.ForkHandlers.{ForkHandlers}
@@ -18,12 +20,12 @@ use Rattle.pct_model.specs.declared.state.Phase.{Phase}
 use Rattle.pct_model.specs.declared.state.Phase.TheVariants as phase
 use Rattle.pct_model.specs.declared.state.Status.{Status}
 use Rattle.pct_model.specs.declared.state.Status.TheVariants as status
-use Rattle.pct_model.specs.NextStatement.{next_of}
+use Rattle.pct_model.specs.declared.statement.Stmt.TheVariants as statement
+use Rattle.pct_model.specs.NextStatement.{NextStatement, StatementIn, next_of}
 use Rattle.pct_model.specs.StatusKinds.{is_forking}
 use Rattle.pct_model.specs.World.{Thread}
 use Rattle.pct_laws.specs.CancelLaw.{acts_or_stops}
-use Rattle.pct_laws.specs.FrameLaw.{leaves_all}
-use Rattle.pct_laws.specs.ResultLaw.{answer_in, calls_fork}
+use Rattle.pct_laws.specs.RanAll.{leaves_all}
 use Rattle.pct_laws.specs.ThreadSteps.{ThreadStep, EachStep}
 
 -- ---- the handlers of a fork
@@ -54,17 +56,26 @@ begun_with count = record { phase = phase.Prepare; next = count; length = count;
 
 -- ---- the law of a step
 
+-- the answer that fork gets in a step with these events: the id of the child, or 0 if none could be made
+abbrev pub answer_in : List What → Option ℕ
+answer_in (what.Forked pid ∷ []) = Some pid
+answer_in (what.Answer caller.Fork n ∷ []) = Some 0
+answer_in _ = None
+
+-- a running thread calls fork
+abbrev pub calls_fork : NextStatement → Status → Bool
+calls_fork (StatementIn frame (statement.Fork result child)) status.Running = true
+calls_fork next _ = false
+
 -- the thread is in a phase of a fork, and the handler that it calls is the first that is left: the others are left then
 pub record CallsHandler (at : Phase) (f : ℕ) (s : ThreadStep) : Type 0 where
   pub fork : ForkAt
-  pub fork_after : ForkAt
+  pub next : ℕ
   pub before : fork_of s.before ≡ Some fork
-  pub after : fork_of s.after ≡ Some fork_after
   pub in_phase : fork.phase ≡ at
-  pub next : left_to_call s.process.shared.fork_handlers fork ≡ f ∷ left_to_call s.process.shared.fork_handlers fork_after
-  -- the phase and the registrations stay
-  pub same_phase : fork_after.phase ≡ at
-  pub same_length : fork_after.length ≡ fork.length
+  -- the phase, the registrations and the answer stay
+  pub after : fork_of s.after ≡ Some (record fork { next = next })
+  pub first : left_to_call s.process.shared.fork_handlers fork ≡ f ∷ left_to_call s.process.shared.fork_handlers (record fork { next = next })
 
 -- at the event of a call of a fork handler
 abbrev pub EachHandler : What → ThreadStep → Type 0
@@ -80,17 +91,14 @@ is_handler_call (what.ParentRun f) = true
 is_handler_call (what.ChildRun f) = true
 is_handler_call _ = false
 
--- a process is made, or cannot be made: no prepare handler is left, and the parent handlers of the same registrations are next
-pub record ForksWithNoneLeft (s : ThreadStep) : Type 0 where
+-- a process is made, or cannot be made, which is the answer: no prepare handler is left, and the parent handlers of the same registrations are
+-- next
+pub record ForksWithNoneLeft (answer : ℕ) (s : ThreadStep) : Type 0 where
   pub fork : ForkAt
-  pub fork_after : ForkAt
   pub before : fork_of s.before ≡ Some fork
-  pub after : fork_of s.after ≡ Some fork_after
   pub prepared : fork.phase ≡ phase.Prepare
   pub none_left : left_to_call s.process.shared.fork_handlers fork ≡ []
-  pub next : fork_after.phase ≡ phase.Parent
-  pub all_left : fork_after.next ≡ 0
-  pub same_length : fork_after.length ≡ fork.length
+  pub after : fork_of s.after ≡ Some (record { phase = phase.Parent; next = 0; length = fork.length; answer = answer })
 
 -- what a step does to the fork of its thread
 pub record KeepsFork (script : Script) (s : ThreadStep) : Type 0 where
@@ -98,7 +106,7 @@ pub record KeepsFork (script : Script) (s : ThreadStep) : Type 0 where
   pub begun : calls_fork (next_of script s.before.frames) s.before.status ≡ true → acts_or_stops s.events ≡ false
       → fork_of s.after ≡ Some (begun_with (length s.process.shared.fork_handlers))
   pub called : All (λ w. EachHandler w s) s.events
-  pub made : is_some (answer_in s.events) ≡ true → ForksWithNoneLeft s
+  pub made : (answer : ℕ) → answer_in s.events ≡ Some answer → ForksWithNoneLeft answer s
   -- a thread in fork returns from it after it got its answer, and with none left
   pub returned : (fork : ForkAt) → is_forking s.before.status ≡ true → fork_of s.before ≡ Some fork → fork_of s.after ≡ None
       → (left_to_call s.process.shared.fork_handlers fork ≡ []) × (fork.phase ≢ phase.Prepare)

@@ -1,11 +1,13 @@
 -- The law of frames: in which functions a thread is, newest first, and where it goes on in each. A call, by `do` or as an event reports, puts
 -- its function on top, at the first statement; the statements of the top function are executed in turn, with the jumps of the script language;
--- it goes by `return`, or by the `end` that closes it; and all go as the thread begins to end or to exit its process. A step changes no frame
--- of another thread. So a handler that is called as a thread ends is left only by its return, or by an exit of the process (XSH 2.9.5.3,
--- pthread_exit, pthread_cleanup_pop, pthread_key_create, pthread_atfork, fork, exit).
+-- it goes by `return`, or by the `end` that closes it; and all go as the thread begins to end or to exit its process. So a handler that is
+-- called as a thread ends is left only by its return, or by an exit of the process (XSH 2.9.5.3, pthread_exit, pthread_cleanup_pop,
+-- pthread_key_create, pthread_atfork, fork, exit).
 --
--- It leaves open which functions the events report (Calls.antt), and the locals of functions that go on (ResultLaw.antt).
-use Rattle.std.specs.Prelude.{◌≡◌, ◌≢◌, ℕ, suc, ◌-◌, if◌then◌else◌, Bool, true, false, ◌||◌, List, [], ◌∷◌, ◌++◌, length, map, flat_map}
+-- It leaves open which functions the events report (StatementLaw.antt, Once.antt, Calls.antt, ForkLaw.antt), and the locals of functions that go
+-- on (ResultLaw.antt). That a step changes no frame of another thread is said by the law of wake-ups, with all else that it leaves of other
+-- threads (WakeLaw.antt, KeepsOther).
+use Rattle.std.specs.Prelude.{◌≡◌, ℕ, suc, ◌-◌, if◌then◌else◌, Bool, true, false, ◌||◌, List, [], ◌∷◌, ◌++◌, length, map, flat_map}
 use Rattle.std.specs.Prelude.{take, nat_eq, Option, Some, None, is_none, replicate, unwrap_or}
 use Rattle.std.specs.List.{list_any}
 use Rattle.std.specs.Option.{option_map_or}
@@ -20,13 +22,16 @@ use Rattle.pct_model.specs.declared.schedule.Entry.{Entry}
 use Rattle.pct_model.specs.declared.script.Script.{Script}
 use Rattle.pct_model.specs.declared.state.FrameKind.{FrameKind}
 use Rattle.pct_model.specs.declared.state.FrameKind.TheVariants as kind
+use Rattle.pct_model.specs.declared.state.Status.TheVariants as status
 use Rattle.pct_model.specs.declared.statement.Stmt.{Stmt}
 use Rattle.pct_model.specs.declared.statement.Stmt.TheVariants as statement
 use Rattle.pct_model.specs.Jumps.{close_of, holds, is_while, open_of}
+use Rattle.pct_model.specs.LineParsing.{is_empty}
 use Rattle.pct_model.specs.NextStatement.{NextStatement, NoStatement, StatementIn, next_of, body_at}
-use Rattle.pct_model.specs.World.{Thread, thread_with, value_of}
+use Rattle.pct_model.specs.World.{value_of}
+use Rattle.pct_laws.specs.ForkLaw.{calls_fork}
 use Rattle.pct_laws.specs.KnownThreads.{is_own}
-use Rattle.pct_laws.specs.ResultLaw.{calls_fork}
+use Rattle.pct_laws.specs.RanAll.{leaves_all}
 use Rattle.pct_laws.specs.ThreadSteps.{ThreadStep, EachStep}
 
 -- ---- calls
@@ -92,18 +97,11 @@ module _ (body : List Stmt) (globals : List ℕ) where
 
 -- ---- the law of a step
 
--- by this event the thread leaves all functions: it begins to end, or to exit its process
-abbrev pub leaves_all : What → Bool
-leaves_all (what.EndingExit v) = true
-leaves_all what.EndingCanceled = true
-leaves_all (what.EndingInWait c m) = true
-leaves_all (what.ExitBegun v) = true
-leaves_all _ = false
-
 -- after this event the thread is still at its statement: in a call that has not returned, or its process or the run has ended
 abbrev pub stays : What → Bool
 stays (what.Called index) = true
 stays (what.WaitCanceled c) = true
+stays (what.WaitExpired c) = true
 stays (what.PrepareRun f) = true
 stays (what.Forked pid) = true
 stays (what.Answer caller.Fork n) = true
@@ -128,12 +126,8 @@ pub record MovesFrames (script : Script) (s : ThreadStep) : Type 0 where
   pub places : places s.after.frames ≡ (if list_any leaves_all s.events then [] else map (λ call. (call.0, 0, call.2)) (its_calls script s) ++ places_left script s)
   -- a function that is called has its argument, and 0 in each other local
   pub arguments : map (λ frame. frame.locals) (take (length (its_calls script s)) s.after.frames) ≡ map locals_at_call (its_calls script s)
-
--- a step changes no frame of another thread of its process
-abbrev pub KeepsOtherFrames : ThreadStep → Type 0
-KeepsOtherFrames s =
-    (tid : ℕ) (before after : Thread) → tid ≢ s.tid → thread_with tid s.process ≡ Some before → thread_with tid s.process_after ≡ Some after
-    → after.frames ≡ before.frames
+  -- and its thread runs
+  pub runs : is_empty (its_calls script s) ≡ false → s.after.status ≡ status.Running
 
 -- ---- handlers of an end
 
@@ -165,5 +159,4 @@ StaysInHandler s = (f a : ℕ) → newest_call s.pid s.tid s.earlier ≡ Some (w
 -- the law of frames, of the run of a schedule
 pub record FrameLaw (script : Script) (config : Config) (entries : List Entry) : Type 0 where
   pub frames : EachStep script config entries (MovesFrames script)
-  pub others : EachStep script config entries KeepsOtherFrames
   pub handlers : EachStep script config entries StaysInHandler

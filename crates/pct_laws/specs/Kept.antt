@@ -1,6 +1,7 @@
 -- The invariant of reachable states: what each state that a run reaches keeps, beside the events that led to it.
 use Rattle.std.specs.Prelude.{◌≡◌, ◌≢◌, ℕ, suc, ◌+◌, ◌*◌, ◌<◌, ◌≤◌, nat_eq, Bool, true, false, not, ◌&&◌, ◌||◌, if◌then◌else◌, Option, Some, None, is_some, option_map}
 use Rattle.std.specs.Prelude.{List, [], ◌∷◌, ◌++◌, length, map, slice_get, slice_index, All}
+use Rattle.std.specs.Bool.{beq}
 use Rattle.std.specs.List.{list_any}
 use Rattle.std.specs.Option.{IsSomeAnd, option_map_or}
 use Rattle.pct_model.specs.declared.event.Event.{Event}
@@ -22,9 +23,10 @@ use Rattle.pct_model.specs.declared.statement.Stmt.TheVariants as statement
 use Rattle.pct_model.specs.Actions.{without_first}
 use Rattle.pct_laws.specs.ProcessEnds.{exit_value, end_status}
 use Rattle.pct_laws.specs.FollowedEvents.{are_followed}
+use Rattle.pct_model.specs.ChoiceTable.{is_timed_wait}
 use Rattle.pct_model.specs.CancelCalls.{point_kind, is_required, state_if, mode_if}
 use Rattle.pct_laws.specs.CancelEvents.{is_requested, is_enabled_last, is_asynchronous_last, has_not_begun}
-use Rattle.pct_model.specs.CondCalls.{cond_wait_point}
+use Rattle.pct_model.specs.CondCalls.{cond_wait_point, cond_timedwait_point}
 use Rattle.pct_model.specs.ForkCalls.{is_fork}
 use Rattle.pct_laws.specs.KeyEvents.{has_key}
 use Rattle.pct_model.specs.Keys.{Key, KeyPlace, key_at, key_with, value_at}
@@ -42,7 +44,7 @@ use Rattle.pct_model.specs.ThreadCalls.{join_point}
 use Rattle.pct_model.specs.ThreadNumbers.{NumbersThreads}
 use Rattle.pct_model.specs.ThreadSlots.{is_ended_status}
 use Rattle.pct_laws.specs.ThreadSummary.{ThreadSummary, summary_of}
-use Rattle.pct_laws.specs.WaitStages.{WaitStage, NoWait, InWait, Leaving, LeavingSignal, wait_stage}
+use Rattle.pct_laws.specs.WaitStages.{WaitStage, NoWait, InWait, Expired, Leaving, Left, wait_stage}
 use Rattle.pct_model.specs.World.{Thread, Process, World, made_process, thread_with, made_thread, body_of}
 
 -- ---- handlers
@@ -122,9 +124,10 @@ abbrev pub is_call_of : ℕ → NextStatement → Bool
 is_call_of index (StatementIn frame (statement.PointCall i)) = nat_eq i index && is_required (point_kind index)
 is_call_of index _ = false
 
--- the next statement is sem_wait of the semaphore with an index
+-- the next statement is sem_wait or sem_timedwait of the semaphore with an index
 abbrev pub is_sem_wait_of : ℕ → NextStatement → Bool
 is_sem_wait_of s (StatementIn frame (statement.SemWait sem)) = nat_eq sem s
+is_sem_wait_of s (StatementIn frame (statement.SemTimedWait result sem)) = nat_eq sem s
 is_sem_wait_of s _ = false
 
 -- the next statement is fork
@@ -137,17 +140,20 @@ abbrev pub is_at_waitpid : NextStatement → Bool
 is_at_waitpid (StatementIn frame (statement.WaitPid result pid value)) = true
 is_at_waitpid _ = false
 
--- the next statement is pthread_cond_wait of the condition variable and the mutex with these indexes
+-- the next statement is pthread_cond_wait or pthread_cond_timedwait of the condition variable and the mutex with these indexes
 abbrev pub is_cond_wait_of : ℕ → ℕ → NextStatement → Bool
 is_cond_wait_of c m (StatementIn frame (statement.CondWait cond mutex)) = nat_eq cond c && nat_eq mutex m
+is_cond_wait_of c m (StatementIn frame (statement.CondTimedWait result cond mutex)) = nat_eq cond c && nat_eq mutex m
 is_cond_wait_of c m _ = false
 
--- a thread with this status is in the call of its next statement, if it is in sem_wait, waitpid, pthread_cond_wait or fork
+-- a thread with this status is in the call of its next statement, if it is in sem_wait, waitpid, pthread_cond_wait or fork; and if the time of
+-- its wait expired, the call is a wait with a time
 abbrev pub IsSuspendedAt : NextStatement → Status → Type 0
 IsSuspendedAt next (status.InSem s) = is_sem_wait_of s next ≡ true
 IsSuspendedAt next (status.InWaitPid pid) = is_at_waitpid next ≡ true
 IsSuspendedAt next (status.Forking at) = is_at_fork next ≡ true
 IsSuspendedAt next (status.Waiting c m) = is_cond_wait_of c m next ≡ true
+IsSuspendedAt next (status.Reacquire c m cause.TimedOut) = (is_cond_wait_of c m next && is_timed_wait next) ≡ true
 IsSuspendedAt next (status.Reacquire c m why) = is_cond_wait_of c m next ≡ true
 IsSuspendedAt next _ = Unit {0}
 
@@ -324,23 +330,26 @@ pub record OwnersKept (script : Script) (pid : ℕ) (p : Process) (events : List
   pub mutexes : length p.shared.owners ≡ length script.mutexes
   pub owners : (m : ℕ) → slice_index p.shared.owners m ≡ owner_of pid m events
 
--- a thread leaves its wait on condition variable c with mutex m, and may have handed on a signal
-abbrev pub is_leaving : ℕ → ℕ → WaitStage → Bool
-is_leaving c m (Leaving cond mutex) = nat_eq cond c && nat_eq mutex m
-is_leaving c m (LeavingSignal cond mutex) = nat_eq cond c && nat_eq mutex m
-is_leaving c m _ = false
+-- a thread leaves its wait on condition variable c with mutex m, which has a time or, without the flag, has none; it may have handed on a
+-- signal
+abbrev pub is_leaving : Bool → ℕ → ℕ → WaitStage → Bool
+is_leaving timed c m (Leaving has_time cond mutex) = beq has_time timed && nat_eq cond c && nat_eq mutex m
+is_leaving timed c m (Left has_time cond mutex) = beq has_time timed && nat_eq cond c && nat_eq mutex m
+is_leaving timed c m _ = false
 
--- how far the newest condition wait of a thread with this status is: it is unfinished exactly if the thread is Waiting or Reacquire
-abbrev pub WaitKept : Status → WaitStage → Type 0
-WaitKept (status.Waiting c m) stage = stage ≡ InWait m
-WaitKept (status.Reacquire c m cause.Signalled) stage = stage ≡ InWait m
-WaitKept (status.Reacquire c m cause.Broadcast) stage = stage ≡ InWait m
-WaitKept (status.Reacquire c m cause.Canceled) stage = is_leaving c m stage ≡ true
-WaitKept _ stage = stage ≡ NoWait
+-- how far the newest condition wait of a thread with this next statement and this status is: it is unfinished exactly if the thread is Waiting
+-- or Reacquire
+abbrev pub WaitKept : NextStatement → Status → WaitStage → Type 0
+WaitKept next (status.Waiting c m) stage = stage ≡ InWait (is_timed_wait next) m
+WaitKept next (status.Reacquire c m cause.Signalled) stage = stage ≡ InWait (is_timed_wait next) m
+WaitKept next (status.Reacquire c m cause.Broadcast) stage = stage ≡ InWait (is_timed_wait next) m
+WaitKept next (status.Reacquire c m cause.TimedOut) stage = stage ≡ Expired c m
+WaitKept next (status.Reacquire c m cause.Canceled) stage = is_leaving (is_timed_wait next) c m stage ≡ true
+WaitKept next _ stage = stage ≡ NoWait
 
--- the event is a call of pthread_cond_wait
+-- the event is a call of pthread_cond_wait or pthread_cond_timedwait
 abbrev pub is_wait_call : What → Bool
-is_wait_call (what.Called index) = nat_eq index cond_wait_point
+is_wait_call (what.Called index) = nat_eq index cond_wait_point || nat_eq index cond_timedwait_point
 is_wait_call _ = false
 
 -- the event is that a mutex is released
@@ -401,8 +410,8 @@ pub record Kept (script : Script) (config : Config) (w : World) (events : List E
   -- each mutex of the script has an owner or none in each process, and it is the one that the events report
   pub owners : EachProcess w (λ pid p. OwnersKept script pid p events)
   -- the condition wait of each thread is unfinished exactly if the thread is in it
-  pub waits : EachThread w (λ pid tid t. WaitKept t.status (wait_stage pid tid events))
-  -- each call of pthread_cond_wait is directly followed by a release of the same thread
+  pub waits : EachThread w (λ pid tid t. WaitKept (next_of script t.frames) t.status (wait_stage pid tid events))
+  -- each call of a condition wait is directly followed by a release of the same thread
   pub calls_release : are_followed is_wait_call is_release events ≡ true
   -- if a thread exits its process after its own end, each thread of the process has ended (XSH pthread_exit)
   pub last : EachProcess w (λ pid p. EachThreadOf p (λ tid t. ExitsAfterItsEnd t (summary_of pid tid events) → HasOnlyEnded p))

@@ -38,7 +38,8 @@ pub record Laws (script : Script) (config : Config) (entries : List Entry) (r : 
   -- a thread that has ended, or exits its process, neither removes a handler nor calls a destructor nor ends again; after its end it
   -- only exits its process, as the last thread
   pub after_end : each AfterEnd.allows r.events ≡ true
-  -- each event which says that a function is called comes with its call; destructors get the value of a key, which is not NULL
+  -- destructors get the value of their key, which is not NULL; a key is made and deleted by the calls that the events report, and exit
+  -- functions are called the newest first
   pub calls : Calls script config entries r.events
   -- the stages of an end follow each other, and keys with values are left only after the last pass
   pub ends : Ends script config entries r.events
@@ -55,14 +56,15 @@ pub record Laws (script : Script) (config : Config) (entries : List Entry) (r : 
   -- pthread_setspecific gives its thread the value of the operand; a new thread has NULL for each key, and each thread for a new key; and
   -- a step changes no other value of another thread, and no thread of another process
   pub values : ValueLaw script config entries
-  -- a function is called at its first statement, on top of its callers, executes its statements in turn, and goes by a return of its own, or
-  -- with all others as its thread begins to end or to exit its process; and a step changes no frame of another thread. From the call of a
-  -- handler as it ends to the next one, a thread is in the handler, unless that has returned or exited the process
+  -- a function is called by `do` or as an event reports, at its first statement, on top of its callers, executes its statements in turn, and
+  -- goes by a return of its own, or with all others as its thread begins to end or to exit its process. From the call of a handler as it ends
+  -- to the next one, a thread is in the handler, unless that has returned or exited the process
   pub frames : FrameLaw script config entries
   -- pthread_create makes one thread, which executes its start routine, and fork one process, with a copy of the state of its parent and the
   -- replica of the thread that called fork; no other step makes a thread or a process
   pub created : CreationLaw script config entries
-  -- fork calls the fork handlers that were registered at its call, in their order; it makes a process, and returns, with none left to call
+  -- fork calls the fork handlers that were registered at its call, in their order; it makes a process, and returns, with none left to call; and
+  -- it keeps its answer until then
   pub forks : ForkLaw script config entries
   -- each join that returns gets the value of a thread that has ended, no thread is joined twice or while it is detached, and no
   -- request or detach names a thread outside the lifetime of its id
@@ -73,8 +75,8 @@ pub record Laws (script : Script) (config : Config) (entries : List Entry) (r : 
   -- a signal unblocks one of the threads that wait and a broadcast all, each with the mutex of its wait; no other thread is unblocked, and
   -- a step changes nothing of another thread but what its events say; a signal is not lost as its thread acts upon a request
   pub wakes : WakeLaw script config entries
-  -- owners and counts change by the events that say so, and a semaphore is taken only where its count is above 0; atexit and pthread_atfork
-  -- register what they name, unless they fail, and nothing else is registered
+  -- owners and counts change by the events that say so, a semaphore is taken only where its count is above 0, and the time of a wait for
+  -- one expires only where it is 0; atexit and pthread_atfork register what they name, unless they fail, and nothing else is registered
   pub shared : SharedLaw script config entries
   -- a new thread gets an id that no known thread of its process has had, and each known thread on its slot has ended and was joined or is
   -- detached

@@ -17,6 +17,11 @@ begins_to_end what.EndingCanceled = true
 begins_to_end (what.EndingInWait c m) = true
 begins_to_end _ = false
 
+-- by the event the thread leaves all functions: it begins to end, or to exit its process
+abbrev pub leaves_all : What → Bool
+leaves_all (what.ExitBegun v) = true
+leaves_all w = begins_to_end w
+
 -- thread tid of process pid has begun to end
 abbrev pub has_begun : ℕ → ℕ → List Event → Bool
 has_begun pid tid events = list_any (λ e. is_own pid tid e && begins_to_end e.what) events

@@ -2,7 +2,8 @@
 -- each statement stores, as it is executed or as its call returns: the number that the event of the step reports, or else one of the state
 -- before it. Each other global keeps its value, and so does each other local of a function that goes on.
 --
--- It leaves open what the events report (StatementLaw.antt, JoinLaw.antt, ProcessLaw.antt), and the variables of other threads.
+-- It leaves open what the events report (StatementLaw.antt, JoinLaw.antt, ProcessLaw.antt), the answer that a thread in fork has got
+-- (ForkLaw.antt), and the variables of other threads (WakeLaw.antt).
 use Rattle.std.specs.Prelude.{◌≡◌, ℕ, ◌+◌, ◌-◌, ◌%◌, if◌then◌else◌, Bool, true, false, List, [], ◌∷◌, length, map, drop, nat_eq, slice_index}
 use Rattle.std.specs.Prelude.{Option, Some, None, option_map}
 use Rattle.pct_model.specs.declared.event.Caller.TheVariants as caller
@@ -13,7 +14,6 @@ use Rattle.pct_model.specs.declared.numbers.TheConstants.{EAGAIN}
 use Rattle.pct_model.specs.declared.schedule.Config.{Config}
 use Rattle.pct_model.specs.declared.schedule.Entry.{Entry}
 use Rattle.pct_model.specs.declared.script.Script.{Script}
-use Rattle.pct_model.specs.declared.state.ForkAt.{ForkAt}
 use Rattle.pct_model.specs.declared.state.Phase.{Phase}
 use Rattle.pct_model.specs.declared.state.Phase.TheVariants as phase
 use Rattle.pct_model.specs.declared.state.Status.{Status}
@@ -86,6 +86,11 @@ stored_on_return (status.Joining target) (statement.Join id d) (what.Joined n v 
 -- XSH waitpid: 0 and the status of the child, or the error
 stored_on_return (status.InWaitPid pid) (statement.WaitPid result operand d) (what.Reaped child n ∷ []) = (result, 0) ∷ (d, n) ∷ []
 stored_on_return (status.InWaitPid pid) (statement.WaitPid result operand d) (what.Answer caller.WaitPid n ∷ []) = (result, n) ∷ []
+-- XSH sem_timedwait, pthread_cond_timedwait: 0, or the error
+stored_on_return (status.InSem n) (statement.SemTimedWait result sem) (what.Taken taken ∷ []) = (result, 0) ∷ []
+stored_on_return (status.InSem n) (statement.SemTimedWait result sem) (what.Answer caller.SemTimedWait number ∷ []) = (result, number) ∷ []
+stored_on_return (status.Reacquire cond mutex why) (statement.CondTimedWait result c m) (what.Acquired owned ∷ what.Done index ∷ []) = (result, 0) ∷ []
+stored_on_return (status.Reacquire cond mutex why) (statement.CondTimedWait result c m) (what.Acquired owned ∷ what.Answer caller.CondTimedWait number ∷ []) = (result, number) ∷ []
 -- XSH fork: the step without an event is the return, in the parent and in the child
 stored_on_return (status.Forking at) (statement.Fork result child) [] = stored_by_fork at.phase at.answer result child
 stored_on_return _ _ _ = []
@@ -128,36 +133,6 @@ all_locals frames = map (λ frame. frame.locals) frames
 abbrev pub left_of : List Frame → List Frame → List Frame
 left_of frames others = drop (length frames - length others) frames
 
--- ---- the answer of fork, which is stored as it returns
-
--- the answer that the fork of a thread with this status and these kept values has got: the thread is in fork, or in one of its handlers
-abbrev pub answer_by : Status → Option ForkAt → Option ℕ
-answer_by (status.Forking at) kept = Some at.answer
-answer_by _ kept = option_map (λ at. at.answer) kept
-
--- the answer that the fork of a thread has got
-abbrev pub fork_answer : Thread → Option ℕ
-fork_answer t = answer_by t.status t.kept
-
--- the answer that fork gets in a step with these events: the id of the child, or 0 if none could be made
-abbrev pub answer_in : List What → Option ℕ
-answer_in (what.Forked pid ∷ []) = Some pid
-answer_in (what.Answer caller.Fork n ∷ []) = Some 0
-answer_in _ = None
-
--- a running thread calls fork
-abbrev pub calls_fork : NextStatement → Status → Bool
-calls_fork (StatementIn frame (statement.Fork result child)) status.Running = true
-calls_fork next _ = false
-
--- what a step does to the answer
-pub record KeepsAnswer (script : Script) (s : ThreadStep) : Type 0 where
-  -- the event by which a process is made, or not, gives it
-  pub given : (n : ℕ) → answer_in s.events ≡ Some n → fork_answer s.after ≡ Some n
-  -- the thread keeps it as long as it is in fork or in one of its handlers
-  pub kept : answer_in s.events ≡ None → calls_fork (next_of script s.before.frames) s.before.status ≡ false → (n m : ℕ)
-      → fork_answer s.before ≡ Some n → fork_answer s.after ≡ Some m → n ≡ m
-
 -- ---- the law
 
 -- each variable has what the step stores in it, or else keeps its value
@@ -174,6 +149,5 @@ pub record StoresResults (script : Script) (s : ThreadStep) : Type 0 where
   pub kept : is_empty (stored script s) ≡ true → all_locals (left_of s.after.frames s.before.frames) ≡ all_locals (left_of s.before.frames s.after.frames)
 
 -- the law of results, of the run of a schedule
-pub record ResultLaw (script : Script) (config : Config) (entries : List Entry) : Type 0 where
-  pub results : EachStep script config entries (StoresResults script)
-  pub answers : EachStep script config entries (KeepsAnswer script)
+abbrev pub ResultLaw : Script → Config → List Entry → Type 0
+ResultLaw script config entries = EachStep script config entries (StoresResults script)

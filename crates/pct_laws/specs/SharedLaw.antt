@@ -1,10 +1,12 @@
 -- The law of what the threads of a process share, but for the globals (ResultLaw.antt) and the keys (Calls.antt): the owner of a mutex and
 -- the count of a semaphore change by the events that say so alone (XSH pthread_mutex_lock, pthread_mutex_unlock, pthread_cond_wait,
--- sem_wait, sem_post), and a semaphore is taken only where its count is above 0 (XSH sem_wait); atexit and pthread_atfork register what
--- they name, unless they fail, and no other step registers anything; exit begins by its event alone, and takes the newest exit function
--- away as it calls it (XSH atexit, pthread_atfork, exit).
-use Rattle.std.specs.Prelude.{◌≡◌, ℕ, suc, ◌-◌, ◌%◌, Bool, true, nat_lt, List, [], ◌∷◌, ◌++◌, Option, Some, slice_index, slice_set}
+-- sem_wait, sem_post), a semaphore is taken only where its count is above 0 (XSH sem_wait), and the time of a wait for one expires only
+-- where its count is 0 (XSH sem_timedwait); atexit and pthread_atfork register what they name, unless they fail, and no other step
+-- registers anything; exit begins by its event alone, and takes the newest exit function away as it calls it (XSH atexit, pthread_atfork,
+-- exit).
+use Rattle.std.specs.Prelude.{◌≡◌, ℕ, suc, ◌-◌, ◌%◌, Bool, true, nat_eq, nat_lt, List, [], ◌∷◌, ◌++◌, slice_index, slice_set}
 use Rattle.std.specs.List.{list_all}
+use Rattle.pct_model.specs.declared.event.Caller.TheVariants as caller
 use Rattle.pct_model.specs.declared.event.What.{What}
 use Rattle.pct_model.specs.declared.event.What.TheVariants as what
 use Rattle.pct_model.specs.declared.process.ForkHandlers.{ForkHandlers}
@@ -17,6 +19,7 @@ use Rattle.pct_model.specs.declared.statement.Stmt.TheVariants as statement
 use Rattle.pct_model.specs.NextStatement.{NextStatement, StatementIn, next_of}
 use Rattle.pct_model.specs.World.{SharedState}
 use Rattle.pct_laws.specs.AfterAll.{after_all}
+use Rattle.pct_laws.specs.ProcessEnds.{exit_after}
 use Rattle.pct_laws.specs.ThreadSteps.{ThreadStep, EachStep}
 
 -- ---- what an event changes
@@ -37,11 +40,6 @@ counts_after _ counts = counts
 abbrev pub exits_after : What → List ℕ → List ℕ
 exits_after (what.ExitRun f) (newest ∷ older) = older
 exits_after _ functions = functions
-
--- the value with which exit began, if it has begun
-abbrev pub exit_value_after : What → Option ℕ → Option ℕ
-exit_value_after (what.ExitBegun v) value = Some v
-exit_value_after _ value = value
 
 -- ---- what a step registers
 
@@ -67,6 +65,16 @@ is_above_0 counts _ = true
 abbrev pub takes_above_0 : ThreadStep → Bool
 takes_above_0 s = list_all (is_above_0 s.process.shared.counts) s.events
 
+-- sem_timedwait does not fail with a time-out if the semaphore can be locked immediately (XSH sem_timedwait): a thread with this status, by
+-- the count of the semaphore for which it waits
+abbrev pub is_at_0 : List ℕ → Status → What → Bool
+is_at_0 counts (status.InSem sem) (what.Answer caller.SemTimedWait n) = nat_eq (slice_index counts sem) 0
+is_at_0 counts s event = true
+
+-- so it is of each event of a step, by the counts before it
+abbrev pub times_out_at_0 : ThreadStep → Bool
+times_out_at_0 s = list_all (is_at_0 s.process.shared.counts s.before.status) s.events
+
 -- ---- the law
 
 -- what a step with these events, of thread tid with this status and this next statement, makes of the state that its process shares
@@ -76,7 +84,7 @@ pub record ChangesShared (tid : ℕ) (events : List What) (s : Status) (next : N
   -- a new exit function comes first, and new fork handlers last
   pub exit_functions : after.exit_functions ≡ after_all exits_after events (new_exits events s next ++ before.exit_functions)
   pub fork_handlers : after.fork_handlers ≡ before.fork_handlers ++ new_fork_handlers events s next
-  pub exit_value : after.exit_value ≡ after_all exit_value_after events before.exit_value
+  pub exit_value : after.exit_value ≡ after_all exit_after events before.exit_value
   -- a process is restricted as it is made, or never
   pub restricted : after.restricted ≡ before.restricted
 
@@ -84,3 +92,4 @@ pub record ChangesShared (tid : ℕ) (events : List What) (s : Status) (next : N
 pub record SharedLaw (script : Script) (config : Config) (entries : List Entry) : Type 0 where
   pub changes : EachStep script config entries (λ s. ChangesShared s.tid s.events s.before.status (next_of script s.before.frames) s.process.shared s.process_after.shared)
   pub above_0 : EachStep script config entries (λ s. takes_above_0 s ≡ true)
+  pub at_0 : EachStep script config entries (λ s. times_out_at_0 s ≡ true)

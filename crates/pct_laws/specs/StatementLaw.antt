@@ -3,17 +3,17 @@
 -- suspends the thread does so for what the operands name, and the thread leaves it only by the events of a return or of a request, which
 -- name what it was suspended for.
 --
--- It leaves open when a thread acts upon a request (CancelLaw.antt) and which statement is a stop; which of the threads that wait a signal
--- unblocks, and which of the numbers that are free a new thread or a new key gets; whether waitpid finds a child; which value a join and
--- which status waitpid gets (JoinLaw.antt, ProcessLaw.antt); and what else a step does beside its events.
-use Rattle.std.specs.Prelude.{◌≡◌, ℕ, ◌%◌, if◌then◌else◌, Bool, true, false, not, ◌&&◌, ◌||◌, List, [], ◌∷◌, length, count_by, is_none, is_some, nat_eq, nat_lt}
+-- It leaves open when a thread acts upon a request (CancelLaw.antt) and which statement is a stop; which threads a signal and a broadcast
+-- unblock (WakeLaw.antt), and which of the numbers that are free a new thread or a new key gets; whether waitpid finds a child; which value a
+-- join and which status waitpid gets (JoinLaw.antt, ProcessLaw.antt); and what else a step does beside its events.
+use Rattle.std.specs.Prelude.{◌≡◌, ℕ, ◌%◌, if◌then◌else◌, Bool, true, false, not, ◌&&◌, ◌||◌, List, [], ◌∷◌, length, is_none, is_some, nat_eq, nat_lt}
 use Rattle.std.specs.List.{list_all, list_any, range_with_len}
 use Rattle.pct_model.specs.declared.event.Caller.TheVariants as caller
 use Rattle.pct_model.specs.declared.event.What.{What}
 use Rattle.pct_model.specs.declared.event.What.TheVariants as what
 use Rattle.pct_model.specs.declared.frame.Frame.{Frame}
 use Rattle.pct_model.specs.declared.limits.TheConstants.{MAX_EXIT_FUNCTIONS, MAX_FORK_HANDLERS, MAX_KEYS}
-use Rattle.pct_model.specs.declared.numbers.TheConstants.{EAGAIN, ECHILD, ENOMEM}
+use Rattle.pct_model.specs.declared.numbers.TheConstants.{EAGAIN, ECHILD, ENOMEM, ETIMEDOUT}
 use Rattle.pct_model.specs.declared.schedule.Config.{Config}
 use Rattle.pct_model.specs.declared.schedule.Entry.{Entry}
 use Rattle.pct_model.specs.declared.script.Script.{Script}
@@ -26,12 +26,12 @@ use Rattle.pct_model.specs.declared.statement.Operand.{Operand}
 use Rattle.pct_model.specs.declared.statement.Stmt.{Stmt}
 use Rattle.pct_model.specs.declared.statement.Stmt.TheVariants as statement
 use Rattle.pct_model.specs.CancelCalls.{is_required, is_optional, point_kind, testcancel_point}
-use Rattle.pct_model.specs.CondCalls.{cond_wait_point, is_waiting_on}
+use Rattle.pct_model.specs.CondCalls.{cond_wait_point, cond_timedwait_point}
 use Rattle.pct_model.specs.ForkCalls.{waitpid_point}
 use Rattle.pct_model.specs.Keys.{KeyPlace, key_at, new_keys}
 use Rattle.pct_model.specs.LineParsing.{is_empty}
 use Rattle.pct_model.specs.NextStatement.{NextStatement, NoStatement, StatementIn, next_of, body_at}
-use Rattle.pct_model.specs.SemCalls.{sem_wait_point}
+use Rattle.pct_model.specs.SemCalls.{sem_wait_point, sem_timedwait_point}
 use Rattle.pct_model.specs.StopTable.{closes_function}
 use Rattle.pct_model.specs.ThreadCalls.{join_point}
 use Rattle.pct_model.specs.ThreadSlots.{free_ids, holds_slot, slot_of}
@@ -61,18 +61,6 @@ abbrev pub of_pop : ℕ → List (ℕ × ℕ) → List What → Bool
 of_pop v ((f, a) ∷ handlers) (what.Popped function argument called ∷ []) = nat_eq function f && nat_eq argument a && agree called (not (nat_eq v 0))
 of_pop v ((f, a) ∷ handlers) _ = false
 of_pop v [] events = is_empty events
-
--- the number of a new thread or a new key is one of these
-abbrev pub is_among : ℕ → List ℕ → Bool
-is_among n numbers = list_any (nat_eq n) numbers
-
--- the thread waits on condition variable c, and its process inherited it
-abbrev pub waits_on : ℕ → Thread → Bool
-waits_on c t = not t.gone && is_waiting_on c t.status
-
--- a signal to condition variable c unblocks the thread with an id: one of these threads that waits there, or none, which is 0, if none does
-abbrev pub unblocks : ℕ → ℕ → List Thread → Bool
-unblocks c id threads = if nat_eq (count_by (waits_on c) threads) 0 then nat_eq id 0 else list_any (λ t. waits_on c t && nat_eq id t.id) threads
 
 -- each slot is held by one of these threads: pthread_create fails
 abbrev pub all_slots_held : ℕ → List Thread → Bool
@@ -109,7 +97,7 @@ module _ (slots : ℕ) (body : List Stmt) (shared : SharedState) (threads : List
   asked frame (statement.Return v) events = of_return frame.kind (value frame v) events
   -- XSH pthread_create: a number that is free, or EAGAIN if none is. That it fails only then, and which
   -- numbers are free, are choices of this host
-  asked frame (statement.Create result id f v detached) (what.Created n made_detached ∷ []) = is_among n (free_ids slots threads) && agree made_detached detached
+  asked frame (statement.Create result id f v detached) (what.Created n made_detached ∷ []) = list_any (nat_eq n) (free_ids slots threads) && agree made_detached detached
   asked frame (statement.Create result id f v detached) (what.Answer caller.Create n ∷ []) = nat_eq n EAGAIN && all_slots_held slots threads
   -- XSH pthread_join: the call. That each call which may suspend the thread has an event of its own is a choice of this host
   asked frame (statement.Join id d) (what.Called index ∷ []) = nat_eq index join_point
@@ -127,7 +115,7 @@ module _ (slots : ℕ) (body : List Stmt) (shared : SharedState) (threads : List
   asked frame (statement.Push f v) (what.Pushed function argument ∷ []) = nat_eq function f && nat_eq argument (value frame v)
   asked frame (statement.Pop v) events = of_pop (value frame v) t.handlers events
   -- XSH pthread_key_create: as for pthread_create
-  asked frame (statement.KeyCreate result key destructor) (what.KeyMade n ∷ []) = is_among n (new_keys shared.keys)
+  asked frame (statement.KeyCreate result key destructor) (what.KeyMade n ∷ []) = list_any (nat_eq n) (new_keys shared.keys)
   asked frame (statement.KeyCreate result key destructor) (what.Answer caller.KeyCreate n ∷ []) = nat_eq n EAGAIN && all_places_taken shared.keys
   -- XSH pthread_key_delete, pthread_setspecific, pthread_getspecific
   asked frame (statement.KeyDelete key) (what.KeyGone n ∷ []) = nat_eq n (value frame key)
@@ -138,11 +126,14 @@ module _ (slots : ℕ) (body : List Stmt) (shared : SharedState) (threads : List
   asked frame (statement.Unlock m) (what.Released n ∷ []) = nat_eq n m
   -- XSH pthread_cond_wait: the call, and the release of the mutex, atomically
   asked frame (statement.CondWait c m) (what.Called index ∷ what.Released n ∷ []) = nat_eq index cond_wait_point && nat_eq n m
-  -- XSH pthread_cond_signal, pthread_cond_broadcast: one of the threads that wait is unblocked, or none if none waits; and all of them
-  asked frame (statement.Signal c) (what.Signalled cond id ∷ []) = nat_eq cond c && unblocks c id threads
-  asked frame (statement.Broadcast c) (what.BroadcastTo cond n ∷ []) = nat_eq cond c && nat_eq n (count_by (waits_on c) threads)
-  -- XSH sem_wait, sem_post
+  -- XSH pthread_cond_timedwait: the same
+  asked frame (statement.CondTimedWait result c m) (what.Called index ∷ what.Released n ∷ []) = nat_eq index cond_timedwait_point && nat_eq n m
+  -- XSH pthread_cond_signal, pthread_cond_broadcast
+  asked frame (statement.Signal c) (what.Signalled cond id ∷ []) = nat_eq cond c
+  asked frame (statement.Broadcast c) (what.BroadcastTo cond n ∷ []) = nat_eq cond c
+  -- XSH sem_wait, sem_timedwait, sem_post
   asked frame (statement.SemWait sem) (what.Called index ∷ []) = nat_eq index sem_wait_point
+  asked frame (statement.SemTimedWait result sem) (what.Called index ∷ []) = nat_eq index sem_timedwait_point
   asked frame (statement.SemPost sem) (what.Posted n ∷ []) = nat_eq n sem
   -- XSH pthread_atfork: ENOMEM past the limit of this host alone
   asked frame (statement.AtFork result prepare parent child) (what.Answer caller.AtFork n ∷ []) = nat_eq n ENOMEM && not (nat_lt (length shared.fork_handlers) MAX_FORK_HANDLERS)
@@ -191,7 +182,9 @@ is_call _ = false
 abbrev pub is_suspended_at : List ℕ → NextStatement → Status → Bool
 is_suspended_at globals (StatementIn frame (statement.Join id d)) (status.Joining n) = nat_eq n (value_of globals frame id)
 is_suspended_at globals (StatementIn frame (statement.CondWait c m)) (status.Waiting cond mutex) = nat_eq cond c && nat_eq mutex m
+is_suspended_at globals (StatementIn frame (statement.CondTimedWait result c m)) (status.Waiting cond mutex) = nat_eq cond c && nat_eq mutex m
 is_suspended_at globals (StatementIn frame (statement.SemWait sem)) (status.InSem n) = nat_eq n sem
+is_suspended_at globals (StatementIn frame (statement.SemTimedWait result sem)) (status.InSem n) = nat_eq n sem
 is_suspended_at globals (StatementIn frame (statement.WaitPid result pid d)) (status.InWaitPid n) = nat_eq n (value_of globals frame pid)
 is_suspended_at globals (StatementIn frame (statement.PointCall index)) (status.AtPoint n) = nat_eq n index
 is_suspended_at globals _ _ = false
@@ -236,6 +229,8 @@ goes_on_by (status.Joining target) (what.EndingCanceled ∷ []) = true
 -- XSH sem_wait
 goes_on_by (status.InSem n) (what.Taken sem ∷ []) = nat_eq sem n
 goes_on_by (status.InSem n) (what.EndingCanceled ∷ []) = true
+-- XSH sem_timedwait: its time expired
+goes_on_by (status.InSem n) (what.Answer caller.SemTimedWait number ∷ []) = nat_eq number ETIMEDOUT
 -- XSH waitpid: ECHILD if another thread has reaped the child meanwhile
 goes_on_by (status.InWaitPid child) (what.Reaped pid n ∷ []) = nat_eq pid child
 goes_on_by (status.InWaitPid child) (what.Answer caller.WaitPid n ∷ []) = nat_eq n ECHILD
@@ -243,11 +238,16 @@ goes_on_by (status.InWaitPid child) (what.EndingCanceled ∷ []) = true
 -- XSH pthread_cond_wait: a thread owns the mutex again as it returns, and also as it begins to end, after it acted upon a request in the
 -- wait; if a signal had unblocked it, it may hand the signal on then
 goes_on_by (status.Waiting c m) (what.WaitCanceled cond ∷ []) = nat_eq cond c
+-- XSH pthread_cond_timedwait: the time expires, and the thread returns ETIMEDOUT once it owns the mutex again
+goes_on_by (status.Waiting c m) (what.WaitExpired cond ∷ []) = nat_eq cond c
+goes_on_by (status.Reacquire c m cause.TimedOut) (what.Acquired mutex ∷ what.Answer caller.CondTimedWait number ∷ []) = nat_eq mutex m && nat_eq number ETIMEDOUT
+goes_on_by (status.Reacquire c m cause.TimedOut) (what.WaitCanceled cond ∷ []) = nat_eq cond c
+goes_on_by (status.Reacquire c m cause.TimedOut) events = false
 goes_on_by (status.Reacquire c m cause.Canceled) (what.Acquired mutex ∷ what.EndingInWait cond owned ∷ []) = nat_eq mutex m && nat_eq cond c && nat_eq owned m
 goes_on_by (status.Reacquire c m cause.Canceled) events = false
 goes_on_by (status.Reacquire c m cause.Signalled) (what.WaitCanceled cond ∷ what.HandedOn signalled id ∷ []) = nat_eq cond c && nat_eq signalled c
 goes_on_by (status.Reacquire c m why) (what.WaitCanceled cond ∷ []) = nat_eq cond c
-goes_on_by (status.Reacquire c m why) (what.Acquired mutex ∷ what.Done index ∷ []) = nat_eq mutex m && nat_eq index cond_wait_point
+goes_on_by (status.Reacquire c m why) (what.Acquired mutex ∷ what.Done index ∷ []) = nat_eq mutex m && (nat_eq index cond_wait_point || nat_eq index cond_timedwait_point)
 -- XSH fork: its return has no event
 goes_on_by (status.Forking at) [] = true
 goes_on_by (status.Forking at) (w ∷ []) = is_of_fork w

@@ -1,38 +1,51 @@
--- The condition waits of a thread, as its own events report them (XSH pthread_cond_wait). The events are listed newest first, as in the
--- trace of a run.
+-- The condition waits of a thread, as its own events report them (XSH pthread_cond_wait, pthread_cond_timedwait). The events are listed
+-- newest first, as in the trace of a run.
 use Rattle.std.specs.Prelude.{ℕ, Bool, true, false, ◌&&◌, ◌||◌, if◌then◌else◌, List, [], ◌∷◌, nat_eq}
+use Rattle.pct_model.specs.declared.event.Caller.TheVariants as caller
 use Rattle.pct_model.specs.declared.event.Event.{Event}
 use Rattle.pct_model.specs.declared.event.What.{What}
 use Rattle.pct_model.specs.declared.event.What.TheVariants as what
-use Rattle.pct_model.specs.CondCalls.{cond_wait_point}
+use Rattle.pct_model.specs.declared.numbers.TheConstants.{ETIMEDOUT}
+use Rattle.pct_model.specs.CondCalls.{cond_wait_point, cond_timedwait_point}
 use Rattle.pct_laws.specs.KnownThreads.{is_own}
 
 -- how far the newest condition wait of a thread is
 pub data WaitStage : Type 0 where
   -- no wait is unfinished
   NoWait : WaitStage
-  -- pthread_cond_wait was called
-  AtCall : WaitStage
-  -- it released this mutex, and has neither acquired it again nor acted upon a request
-  InWait : ℕ → WaitStage
+  -- pthread_cond_wait was called or, with the flag, pthread_cond_timedwait
+  AtCall : Bool → WaitStage
+  -- it released this mutex, and has neither acquired it again nor acted upon a request, and its time has not expired
+  InWait : Bool → ℕ → WaitStage
   -- it acquired the mutex again, and returns next
-  ToReturn : WaitStage
-  -- a request was acted upon: the wait on this condition variable, with this mutex, is left
-  Leaving : ℕ → ℕ → WaitStage
-  -- and a signal was handed on
-  LeavingSignal : ℕ → ℕ → WaitStage
+  ToReturn : Bool → WaitStage
+  -- its time expired, on this condition variable, with this mutex
+  Expired : ℕ → ℕ → WaitStage
+  -- and it acquired the mutex again, and returns ETIMEDOUT next
+  ToTimeOut : WaitStage
+  -- a request was acted upon: the wait of this flag, on this condition variable, with this mutex, is left, and may hand on a signal
+  Leaving : Bool → ℕ → ℕ → WaitStage
+  -- it is left, and hands on no signal any more
+  Left : Bool → ℕ → ℕ → WaitStage
   -- it acquired the mutex again, and begins to end next
   ToEnd : ℕ → ℕ → WaitStage
 
+-- the stage at the call of a cancellation point
+abbrev pub stage_at_call : ℕ → WaitStage
+stage_at_call index = if nat_eq index cond_wait_point then AtCall false else if nat_eq index cond_timedwait_point then AtCall true else NoWait
+
 -- the stage after an event of the thread
 abbrev pub stage_after : What → WaitStage → WaitStage
-stage_after (what.Called index) stage = if nat_eq index cond_wait_point then AtCall else NoWait
-stage_after (what.Released m) AtCall = InWait m
-stage_after (what.Acquired mutex) (InWait m) = ToReturn
-stage_after (what.WaitCanceled c) (InWait m) = Leaving c m
-stage_after (what.HandedOn cond u) (Leaving c m) = if nat_eq cond c then LeavingSignal c m else NoWait
-stage_after (what.Acquired mutex) (Leaving c m) = ToEnd c m
-stage_after (what.Acquired mutex) (LeavingSignal c m) = ToEnd c m
+stage_after (what.Called index) stage = stage_at_call index
+stage_after (what.Released m) (AtCall timed) = InWait timed m
+stage_after (what.Acquired mutex) (InWait timed m) = ToReturn timed
+stage_after (what.WaitExpired c) (InWait true m) = Expired c m
+stage_after (what.WaitCanceled c) (InWait timed m) = Leaving timed c m
+stage_after (what.Acquired mutex) (Expired c m) = ToTimeOut
+stage_after (what.WaitCanceled cond) (Expired c m) = Left true c m
+stage_after (what.HandedOn cond u) (Leaving timed c m) = if nat_eq cond c then Left timed c m else NoWait
+stage_after (what.Acquired mutex) (Leaving timed c m) = ToEnd c m
+stage_after (what.Acquired mutex) (Left timed c m) = ToEnd c m
 stage_after _ _ = NoWait
 
 -- the stage of thread tid of process pid
@@ -52,28 +65,51 @@ abbrev pub cancels_wait : What → Bool
 cancels_wait (what.WaitCanceled c) = true
 cancels_wait _ = false
 
+-- the event is that a request was acted upon in a wait on condition variable c
+abbrev pub cancels_wait_on : ℕ → What → Bool
+cancels_wait_on c (what.WaitCanceled cond) = nat_eq cond c
+cancels_wait_on c _ = false
+
+-- the event is that the time of a wait expired
+abbrev pub expires_wait : What → Bool
+expires_wait (what.WaitExpired c) = true
+expires_wait _ = false
+
 -- the event is that a signal of condition variable c is handed on
 abbrev pub hands_on_signal : ℕ → What → Bool
 hands_on_signal c (what.HandedOn cond u) = nat_eq cond c
 hands_on_signal c _ = false
 
--- the event is that pthread_cond_wait returns
-abbrev pub returns_from_wait : What → Bool
-returns_from_wait (what.Done index) = nat_eq index cond_wait_point
-returns_from_wait _ = false
+-- the index of pthread_cond_wait or, with the flag, of pthread_cond_timedwait in the table of cancellation points
+abbrev pub wait_point : Bool → ℕ
+wait_point false = cond_wait_point
+wait_point true = cond_timedwait_point
+
+-- the event is that this function returns, without an error
+abbrev pub returns_from_wait : Bool → What → Bool
+returns_from_wait timed (what.Done index) = nat_eq index (wait_point timed)
+returns_from_wait timed _ = false
+
+-- the event is that pthread_cond_timedwait returns ETIMEDOUT
+abbrev pub returns_timed_out : What → Bool
+returns_timed_out (what.Answer caller.CondTimedWait n) = nat_eq n ETIMEDOUT
+returns_timed_out _ = false
 
 -- the event is the ending event of a thread that was canceled in a wait on condition variable c with mutex m
 abbrev pub ends_in_wait : ℕ → ℕ → What → Bool
 ends_in_wait c m (what.EndingInWait cond mutex) = nat_eq cond c && nat_eq mutex m
 ends_in_wait c m _ = false
 
--- the event may be the next one of a thread at a stage. A wait that released its mutex goes on in one of two ways: the thread acquires the
--- mutex and returns; or it acts upon a request, may hand on a signal, acquires the mutex and begins to end
+-- the event may be the next one of a thread at a stage. A wait that released its mutex goes on in one of these ways: the thread acquires the
+-- mutex and returns; or the time of its wait expires, if it has one, and it acquires the mutex and returns ETIMEDOUT; or it acts upon a
+-- request, may hand on a signal, unless its time expired before, acquires the mutex and begins to end
 abbrev pub may_follow_stage : WaitStage → What → Bool
 may_follow_stage NoWait event = true
-may_follow_stage AtCall event = true
-may_follow_stage (InWait m) event = acquires m event || cancels_wait event
-may_follow_stage ToReturn event = returns_from_wait event
-may_follow_stage (Leaving c m) event = acquires m event || hands_on_signal c event
-may_follow_stage (LeavingSignal c m) event = acquires m event
+may_follow_stage (AtCall timed) event = true
+may_follow_stage (InWait timed m) event = acquires m event || cancels_wait event || (timed && expires_wait event)
+may_follow_stage (ToReturn timed) event = returns_from_wait timed event
+may_follow_stage (Expired c m) event = acquires m event || cancels_wait_on c event
+may_follow_stage ToTimeOut event = returns_timed_out event
+may_follow_stage (Leaving timed c m) event = acquires m event || hands_on_signal c event
+may_follow_stage (Left timed c m) event = acquires m event
 may_follow_stage (ToEnd c m) event = ends_in_wait c m event

@@ -1,9 +1,10 @@
 -- The law of wake-ups, and of what a step leaves of other threads: a signal, and one that is handed on, unblocks a thread that waits on its
 -- condition variable, and a broadcast each that does; each goes for the mutex of its own wait, and no other thread is unblocked (the
--- standard allows spurious wakeups: a choice of this host). A thread waits by pthread_cond_wait alone, and leaves its wait with its mutex;
--- one that a signal unblocked, and that acts upon a request, hands the signal on if another thread waits (XSH pthread_cond_wait,
--- pthread_cond_signal, pthread_cond_broadcast). A step changes nothing of another thread but what its events say.
-use Rattle.std.specs.Prelude.{◌≡◌, ◌≢◌, ℕ, if◌then◌else◌, Bool, true, false, not, ◌&&◌, ◌||◌, List, ◌∷◌, count_by, nat_eq, slice_get}
+-- standard allows spurious wakeups: a choice of this host). A thread waits by pthread_cond_wait or pthread_cond_timedwait alone, and
+-- leaves its wait with its mutex; one that a signal unblocked, and that acts upon a request, hands the signal on if another thread waits.
+-- Only the wait of pthread_cond_timedwait has a time that expires, in a step of its own thread (XSH pthread_cond_wait,
+-- pthread_cond_timedwait, pthread_cond_signal, pthread_cond_broadcast). A step changes nothing of another thread but what its events say.
+use Rattle.std.specs.Prelude.{◌≡◌, ◌≢◌, ℕ, if◌then◌else◌, Bool, true, false, not, ◌&&◌, ◌||◌, List, count_by, nat_eq, slice_get}
 use Rattle.std.specs.Prelude.{Some, IsSomeAnd}
 use Rattle.std.specs.List.{list_all, list_any}
 use Rattle.pct_model.specs.declared.event.What.{What}
@@ -15,16 +16,18 @@ use Rattle.pct_model.specs.declared.state.Cause.{Cause}
 use Rattle.pct_model.specs.declared.state.Cause.TheVariants as cause
 use Rattle.pct_model.specs.declared.state.Status.{Status}
 use Rattle.pct_model.specs.declared.state.Status.TheVariants as status
+use Rattle.pct_model.specs.ChoiceTable.{is_timed_wait}
 use Rattle.pct_model.specs.NextStatement.{NextStatement, next_of}
 use Rattle.pct_model.specs.World.{Thread, thread_with}
 use Rattle.pct_laws.specs.AfterAll.{after_all}
+use Rattle.pct_laws.specs.CancelEvents.{requests_id}
 use Rattle.pct_laws.specs.CancelLaw.{is_running}
-use Rattle.pct_laws.specs.CondLaw.{cancels_wait_on}
 use Rattle.pct_laws.specs.Kept.{is_cond_wait_of}
+use Rattle.pct_laws.specs.KnownThreads.{joins_id}
 use Rattle.pct_laws.specs.StatementLaw.{agree}
 use Rattle.pct_laws.specs.ThreadSteps.{ThreadStep, EachStep}
 use Rattle.pct_laws.specs.ValueLaw.{deletes_at}
-use Rattle.pct_laws.specs.WaitStages.{acquires, cancels_wait}
+use Rattle.pct_laws.specs.WaitStages.{acquires, cancels_wait, cancels_wait_on}
 
 -- ---- whom an event names
 
@@ -67,37 +70,29 @@ status_after tid (what.BroadcastTo c n) s = if is_blocked_on c s then unblocked 
 -- no other event unblocks it
 status_after tid _ s = s
 
--- the event is that a request is sent to thread tid, that this thread is detached, that it is joined
-abbrev pub requests : ℕ → What → Bool
-requests tid (what.Request id) = nat_eq id tid
-requests tid _ = false
-
+-- the event is that thread tid is detached by pthread_detach
 abbrev pub detaches : ℕ → What → Bool
 detaches tid (what.Detached id) = nat_eq id tid
 detaches tid _ = false
-
-abbrev pub joins : ℕ → What → Bool
-joins tid (what.Joined id v) = nat_eq id tid
-joins tid _ = false
 
 -- what the events of another thread do to thread tid
 pub record KeepsOther (events : List What) (tid : ℕ) (before after : Thread) : Type 0 where
   -- it is unblocked by them, or keeps its status
   pub unblocks : after.status ≡ after_all (status_after tid) events before.status
   -- a request is pending by pthread_cancel alone; one for a thread that has ended changes nothing, which is a choice of this host
-  pub pending : after.pending ≡ ((list_any (requests tid) events && not before.ended) || before.pending)
+  pub pending : after.pending ≡ ((list_any (requests_id tid) events && not before.ended) || before.pending)
   -- it is detached by pthread_detach, and joined by pthread_join
   pub detached : after.detached ≡ (list_any (detaches tid) events || before.detached)
-  pub joined : after.joined ≡ (list_any (joins tid) events || before.joined)
+  pub joined : after.joined ≡ (list_any (joins_id tid) events || before.joined)
   -- a place leaves its pass over the destructors by pthread_key_delete; its values are in ValueLaw.antt
   pub in_pass : (place : ℕ) → list_any (deletes_at place) events ≡ false → slice_get after.specific.in_pass place ≡ slice_get before.specific.in_pass place
   -- all else stays: its functions with their locals, its cleanup handlers, its cancelability state and type, how its end began
   pub rest : after ≡ record before { status = after.status; pending = after.pending; detached = after.detached; joined = after.joined; specific = after.specific }
 
--- so it is of each other thread that the process inherited: it is there after the step
+-- so it is of each other thread: it is there after the step
 abbrev pub KeepsOthers : ThreadStep → Type 0
 KeepsOthers s =
-    (tid : ℕ) (t : Thread) → tid ≢ s.tid → thread_with tid s.process ≡ Some t → t.gone ≡ false → IsSomeAnd (thread_with tid s.process_after) (KeepsOther s.events tid t)
+    (tid : ℕ) (t : Thread) → tid ≢ s.tid → thread_with tid s.process ≡ Some t → IsSomeAnd (thread_with tid s.process_after) (KeepsOther s.events tid t)
 
 -- ---- the thread that makes the step
 
@@ -114,13 +109,25 @@ has_its_mutex (status.Waiting c m) events = false
 has_its_mutex (status.Reacquire c m why) events = list_any (acquires m) events
 has_its_mutex _ events = true
 
+-- the event is that the time of a wait on condition variable c expired
+abbrev pub expires_on : ℕ → What → Bool
+expires_on c (what.WaitExpired cond) = nat_eq cond c
+expires_on c _ = false
+
+-- a thread with this status waits on condition variable c with mutex m
+abbrev pub is_blocked_with : ℕ → ℕ → Status → Bool
+is_blocked_with c m (status.Waiting cond mutex) = nat_eq cond c && nat_eq mutex m
+is_blocked_with c m _ = false
+
 -- by a step of its own with these events, a thread comes from one status to another
 abbrev pub may_become : NextStatement → List What → Status → Status → Bool
--- it waits by pthread_cond_wait alone, on what the operands name
+-- it waits by pthread_cond_wait or pthread_cond_timedwait alone, on what the operands name
 may_become next events before (status.Waiting c m) = is_running before && is_cond_wait_of c m next
 -- it acts upon a request in its wait, and goes for the mutex of this wait
 may_become next events before (status.Reacquire c m cause.Canceled) = is_in_wait c m before && list_any (cancels_wait_on c) events
--- it does not unblock itself
+-- the time of its wait expires, if the wait has one: it goes for the mutex of this wait (XSH pthread_cond_timedwait)
+may_become next events before (status.Reacquire c m cause.TimedOut) = is_blocked_with c m before && is_timed_wait next && list_any (expires_on c) events
+-- it does not unblock itself otherwise
 may_become next events before (status.Reacquire c m why) = false
 may_become next events before _ = has_its_mutex before events
 

@@ -1,7 +1,7 @@
 -- Each transition that a thread of a process takes fits the process.
-use Rattle.pct_names.proofs.Names.{Alt, and_parts, ap, body_at, Environment, false, false≢true, Family, IfSome, is_ended_status, is_none}
-use Rattle.pct_names.proofs.Names.{is_some, Key, length, List, list_any, nat_eq, next_of, NextStatement, None, offers, Option, refl}
-use Rattle.pct_names.proofs.Names.{same_Some, Script, Some, Status, Stmt, subst, sym, Thread, Transition, true, ℕ, ◌∙◌, ◌≡◌}
+use Rattle.pct_names.proofs.Names.{Alt, and_parts, ap, body_at, Bool, Environment, false, false≢true, Family, IfSome, is_ended_status}
+use Rattle.pct_names.proofs.Names.{is_none, is_some, Key, length, List, list_any, nat_eq, next_of, NextStatement, None, offers, Option}
+use Rattle.pct_names.proofs.Names.{refl, same_Some, Script, Some, Status, Stmt, subst, sym, Thread, Transition, true, ℕ, ◌∙◌, ◌≡◌}
 use Rattle.std.proofs.lemmas.Bool.{true≢false, ltb-true}
 use Rattle.pct_engine_laws.specs.Fitting.{Fits}
 use Rattle.pct_engine_laws.specs.SeenSteps.{thread_with, new_ids_from, environment_in, choices_in, transition_in}
@@ -22,13 +22,13 @@ is_there (Some key) none = refl
 
 -- ---- the transition of a thread, by a choice that is offered
 
-module _ (script : Script) (passes : ℕ) (family : Family) (d : ProcessData) (k : ℕ) (t : Thread) (choice : Alt) (placed : AreOnSlots d.slots) (here : thread_on_slot d.slots k ≡ Some t) where
+module _ (script : Script) (timeouts : Bool) (passes : ℕ) (family : Family) (d : ProcessData) (k : ℕ) (t : Thread) (choice : Alt) (placed : AreOnSlots d.slots) (here : thread_on_slot d.slots k ≡ Some t) where
   abbrev slots : ℕ
   slots = length d.slots
 
   -- its transition
   abbrev taken : Transition
-  taken = transition_in script slots passes family (with_data d) t choice
+  taken = transition_in script timeouts slots passes family (with_data d) t choice
 
   -- its transition, by case
   abbrev Case : Environment → NextStatement → Status → Transition → Type 0
@@ -44,7 +44,7 @@ module _ (script : Script) (passes : ℕ) (family : Family) (d : ProcessData) (k
   shared_fits (exit_registered frame result f may) = ltb-true (length d.shared.exit_functions) 32 (and_parts _ _ may).0
   shared_fits _ = tt
 
-  named_fits : {next : NextStatement} {s : Status} {o : Transition} → t.status ≡ s → Case (environment_in slots family d.slots t.id) next s o → NamedFits t.id o.named d.slots
+  named_fits : {next : NextStatement} {s : Status} {o : Transition} → t.status ≡ s → Case (environment_in timeouts slots family d.slots t.id) next s o → NamedFits t.id o.named d.slots
   unfolding environment_in
   named_fits at (join_ended frame operand e id v target is ended) =
       let has_ended : is_ended_status target.status ≡ true = ap is_ended_status ended in (
@@ -57,15 +57,15 @@ module _ (script : Script) (passes : ℕ) (family : Family) (d : ProcessData) (k
   forgets (key_deleted frame key named) = refl
   forgets _ = refl
 
-  created_fits : {next : NextStatement} {s : Status} {o : Transition} → Case (environment_in slots family d.slots t.id) next s o → IfSome o.created (λ new. list_any (nat_eq new.id) (new_ids_from slots 0 d.slots) ≡ true)
+  created_fits : {next : NextStatement} {s : Status} {o : Transition} → Case (environment_in timeouts slots family d.slots t.id) next s o → IfSome o.created (λ new. list_any (nat_eq new.id) (new_ids_from slots 0 d.slots) ≡ true)
   unfolding environment_in
   created_fits (thread_made frame result id f v detached n among) = among refl
   created_fits _ = tt
 
   -- the transition that it takes fits the process
-  pub taken_fits : Fits (length t.frames) (length t.handlers) t.pass taken.own → offers (choices_in script slots family (with_data d) t) choice ≡ true → Makes k taken d
+  pub taken_fits : Fits (length t.frames) (length t.handlers) t.pass taken.own → offers (choices_in script timeouts slots family (with_data d) t) choice ≡ true → Makes k taken d
   taken_fits fits offered =
-      let environment : Environment = environment_in slots family d.slots t.id in
+      let environment : Environment = environment_in timeouts slots family d.slots t.id in
       let next : NextStatement = next_of script t.frames in
       let body : List Stmt = body_at script t.frames in
       let its_case : Case environment next t.status taken = case_of passes body d.shared t environment true choice next t.status (λ known. offered) in

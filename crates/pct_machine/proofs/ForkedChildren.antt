@@ -1,11 +1,11 @@
 -- The change of the list of processes that a transition makes can be made: a child has the next id, there is room for it, and the thread
 -- that forks holds its slot.
 use Rattle.pct_names.proofs.Names.{◌&&◌, ◌<◌, [], acts, and_parts, ap, body_at, Bool, cond, cond_some, Config, Entry, Environment, false}
-use Rattle.pct_names.proofs.Names.{Family, family_among, find, has_valid_id, holds_slot, IfSome, is_ended_status, length, length-map, List}
-use Rattle.pct_names.proofs.Names.{map, moved, named_after, nat_eq, nat_lt, next_of, NextStatement, None, not, offers, Option}
-use Rattle.pct_names.proofs.Names.{option_and_then, option_and_then_some, option_map, own_after, Parent, pid_after, position, ProcessAction}
-use Rattle.pct_names.proofs.Names.{refl, Relative, Script, SharedState, slice_get, slice_get-map, slot_of, Some, Status, Stmt, subst, suc}
-use Rattle.pct_names.proofs.Names.{sym, Thread, thread_at, thread_moved, Transition, true, ◌||◌, ℕ, ◌∙◌, ◌∷◌, ◌≡◌}
+use Rattle.pct_names.proofs.Names.{Family, family_among, find, has_timeouts, has_valid_id, holds_slot, IfSome, is_ended_status, length}
+use Rattle.pct_names.proofs.Names.{length-map, List, map, moved, named_after, nat_eq, nat_lt, next_of, NextStatement, None, not, offers}
+use Rattle.pct_names.proofs.Names.{Option, option_and_then, option_and_then_some, option_map, own_after, Parent, pid_after, position}
+use Rattle.pct_names.proofs.Names.{ProcessAction, refl, Relative, Script, SharedState, slice_get, slice_get-map, slot_of, Some, Status}
+use Rattle.pct_names.proofs.Names.{Stmt, subst, suc, sym, Thread, thread_at, thread_moved, Transition, true, ◌||◌, ℕ, ◌∙◌, ◌∷◌, ◌≡◌}
 use Rattle.std.proofs.lemmas.Bool.{ltb-true}
 use Rattle.pct_model.specs.declared.event.What.TheVariants as what
 use Rattle.pct_model.specs.declared.state.Status.TheVariants as status
@@ -95,10 +95,10 @@ pub record IsTaken (slots tid : ℕ) (family : Family) (p : SeenProcess) (o : Tr
 is_taken : (script : Script) (config : Config) (family : Family) (p : SeenProcess) (e : Entry) (o : Transition) → taken_in script config family p e ≡ Some o → IsTaken config.slots e.tid family p o
 unfolding environment_in
 is_taken script config family p e o taken =
-    option_and_then_some (if_offered_in script config.slots config.passes family p e) (thread_with config.slots e.tid p.slots) o taken (λ t holds may.
-    let parts = cond_some (offers (choices_in script config.slots family p t) e.alt) (transition_in script config.slots config.passes family p t e.alt) o may in
+    option_and_then_some (if_offered_in script (has_timeouts config.format) config.slots config.passes family p e) (thread_with config.slots e.tid p.slots) o taken (λ t holds may.
+    let parts = cond_some (offers (choices_in script (has_timeouts config.format) config.slots family p t) e.alt) (transition_in script (has_timeouts config.format) config.slots config.passes family p t e.alt) o may in
     let body : List Stmt = body_at script t.frames in
-    let environment : Environment = environment_in config.slots family p.slots t.id in
+    let environment : Environment = environment_in (has_timeouts config.format) config.slots family p.slots t.id in
     record {
       thread = t;
       holds = holds;

@@ -1,7 +1,7 @@
 -- The entry of a thread by a choice that it has is legal.
-use Rattle.pct_names.proofs.Names.{◌%◌, [], Alt, and_from, ap, cond, Config, Entry, false, Family, is_some, item_at, length, List, list_any}
-use Rattle.pct_names.proofs.Names.{nat_eq, None, none-some, not, offers, option_and_then, or_left, or_right, refl, same_choice, same_Some}
-use Rattle.pct_names.proofs.Names.{Script, slice_get, Some, suc, sym, Thread, true, zero, ℕ, ◌∙◌, ◌∷◌, ◌≡◌}
+use Rattle.pct_names.proofs.Names.{◌%◌, [], Alt, and_from, ap, cond, Config, Entry, false, Family, has_timeouts, is_some, item_at, length}
+use Rattle.pct_names.proofs.Names.{List, list_any, nat_eq, None, none-some, not, offers, option_and_then, or_left, or_right, refl}
+use Rattle.pct_names.proofs.Names.{same_choice, same_Some, Script, slice_get, Some, suc, sym, Thread, true, zero, ℕ, ◌∙◌, ◌∷◌, ◌≡◌}
 use Rattle.std.proofs.lemmas.Bool.{eq-eqb}
 use Rattle.pct_model.specs.declared.schedule.Alt.TheVariants as alt
 use Rattle.pct_engine_laws.specs.Seen.{SeenProcess, is_live_seen}
@@ -17,6 +17,7 @@ same_choice-self (alt.Act n) = eq-eqb n n refl
 same_choice-self (alt.New n) = eq-eqb n n refl
 same_choice-self (alt.Pick n) = eq-eqb n n refl
 same_choice-self (alt.Dtor n) = eq-eqb n n refl
+same_choice-self alt.Expire = refl
 
 -- a choice of a list is among its choices
 offers-item : (choices : List Alt) (n : ℕ) (c : Alt) → slice_get choices n ≡ Some c → offers choices c ≡ true
@@ -26,7 +27,7 @@ offers-item (x ∷ rest) (suc n) c at = or_right (same_choice c x) (list_any (sa
 
 module _ (script : Script) (config : Config) (family : Family) (p : SeenProcess) (k worker b : ℕ) (t : Thread) (can : CanStep config.slots p) (at : thread_on_slot p.slots k ≡ Some t) (live : is_some p.ended ≡ false) where
   abbrev choices : ℕ → List Alt
-  choices slots = choices_in script slots family p t
+  choices slots = choices_in script (has_timeouts config.format) slots family p t
 
   -- its entry by a choice that it has
   abbrev entry_by : Alt → Entry
@@ -36,8 +37,8 @@ module _ (script : Script) (config : Config) (family : Family) (p : SeenProcess)
   by_item n c item =
       and_from (is_live_seen p.pid p) (is_some (taken_in script config family p (entry_by c))) (and_from (nat_eq p.pid p.pid) (not (is_some p.ended)) (eq-eqb p.pid p.pid refl) (ap not live))
       (ap is_some (
-      ap (option_and_then (if_offered_in script config.slots config.passes family p (entry_by c))) (ap (λ (n : ℕ). thread_with n t.id p.slots) (sym can.all) ∙ (held_by p.slots can.on_slots k t at).1)
-      ∙ ap (λ y. cond y (Some (transition_in script config.slots config.passes family p t c)) None) (offers-item (choices config.slots) n c item)))
+      ap (option_and_then (if_offered_in script (has_timeouts config.format) config.slots config.passes family p (entry_by c))) (ap (λ (n : ℕ). thread_with n t.id p.slots) (sym can.all) ∙ (held_by p.slots can.on_slots k t at).1)
+      ∙ ap (λ y. cond y (Some (transition_in script (has_timeouts config.format) config.slots config.passes family p t c)) None) (offers-item (choices config.slots) n c item)))
 
   -- the entry that a number chooses is taken
   pub chosen_is_taken : (c : Alt) → Some c ≡ item_at (choices (length p.slots)) b → takes_in script config family (entry_by c) p ≡ true

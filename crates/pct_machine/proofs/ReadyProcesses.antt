@@ -1,8 +1,8 @@
 -- The threads of several processes that are ready: the verdict, and the choice of the scheduler.
 use Rattle.pct_names.proofs.Names.{◌%◌, ◌+◌, ◌++◌, ◌-◌, [], Alt, ap, arith, Bool, Candidate, cond, Config, Entry, entry_for, false, Family}
-use Rattle.pct_names.proofs.Names.{flat_map, IfSome, is_some, item_at, length, length-map, List, list_all, list_any, map, nat_eq, None}
-use Rattle.pct_names.proofs.Names.{none-some, not, Option, option_and_then, option_map, refl, same_Some, Script, slice_get, slice_get-map}
-use Rattle.pct_names.proofs.Names.{Some, suc, sym, true, Verdict, Why, ◌||◌, ℕ, ◌∙◌, ◌∷◌, ◌≡◌, ◌≤◌}
+use Rattle.pct_names.proofs.Names.{flat_map, has_timeouts, IfSome, is_some, item_at, length, length-map, List, list_all, list_any, map}
+use Rattle.pct_names.proofs.Names.{nat_eq, None, none-some, not, Option, option_and_then, option_map, refl, same_Some, Script, slice_get}
+use Rattle.pct_names.proofs.Names.{slice_get-map, Some, suc, sym, true, Verdict, Why, ◌||◌, ℕ, ◌∙◌, ◌∷◌, ◌≡◌, ◌≤◌}
 use Rattle.std.proofs.Math.Nat.{zero-add}
 use Rattle.pct_model.specs.declared.stop.Verdict.TheVariants as verdict
 use Rattle.pct_engine_laws.specs.Seen.{SeenProcess, Seen, family_in}
@@ -22,39 +22,39 @@ use Rattle.pct_machine.proofs.ReadySlots.{as_many, ready_at}
 
 -- ---- one process
 
-module _ (script : Script) (family : Family) (p : SeenProcess) (set : List ℕ) (are : map (thread_on_slot p.slots) set ≡ map (λ t. Some t) (ready_in script (length p.slots) family p)) where
+module _ (script : Script) (timeouts : Bool) (family : Family) (p : SeenProcess) (set : List ℕ) (are : map (thread_on_slot p.slots) set ≡ map (λ t. Some t) (ready_in script timeouts (length p.slots) family p)) where
   -- it has as many candidates as slots whose threads are ready
-  pub count_is : length set ≡ length (candidates_of script family p)
-  count_is = as_many p.slots set (ready_in script (length p.slots) family p) are ∙ sym (length-map (ready_in script (length p.slots) family p) (candidate_in script (length p.slots) family p))
+  pub count_is : length set ≡ length (candidates_of script timeouts family p)
+  count_is = as_many p.slots set (ready_in script timeouts (length p.slots) family p) are ∙ sym (length-map (ready_in script timeouts (length p.slots) family p) (candidate_in script timeouts (length p.slots) family p))
 
   -- the candidate at an index
-  pub candidate_at : {T : Type 0} (g : Candidate → Option T) (j : ℕ) (slot : Option ℕ) → slot ≡ slice_get set j → option_and_then g (slice_get (candidates_of script family p) j) ≡ option_and_then (λ t. g (candidate_in script (length p.slots) family p t)) (option_and_then (thread_on_slot p.slots) slot)
+  pub candidate_at : {T : Type 0} (g : Candidate → Option T) (j : ℕ) (slot : Option ℕ) → slot ≡ slice_get set j → option_and_then g (slice_get (candidates_of script timeouts family p) j) ≡ option_and_then (λ t. g (candidate_in script timeouts (length p.slots) family p t)) (option_and_then (thread_on_slot p.slots) slot)
   candidate_at g j slot at =
-      ap (option_and_then g) (slice_get-map (candidate_in script (length p.slots) family p) (ready_in script (length p.slots) family p) j)
-      ∙ then-map g (candidate_in script (length p.slots) family p) (slice_get (ready_in script (length p.slots) family p) j)
-      ∙ ap (option_and_then (λ t. g (candidate_in script (length p.slots) family p t))) (sym (ready_at p.slots set (ready_in script (length p.slots) family p) are j slot at).0)
+      ap (option_and_then g) (slice_get-map (candidate_in script timeouts (length p.slots) family p) (ready_in script timeouts (length p.slots) family p) j)
+      ∙ then-map g (candidate_in script timeouts (length p.slots) family p) (slice_get (ready_in script timeouts (length p.slots) family p) j)
+      ∙ ap (option_and_then (λ t. g (candidate_in script timeouts (length p.slots) family p t))) (sym (ready_at p.slots set (ready_in script timeouts (length p.slots) family p) are j slot at).0)
 
   -- a thread holds its slot
   pub slot_held : (j : ℕ) (slot : Option ℕ) → slot ≡ slice_get set j → IfSome slot (λ s. is_some (thread_on_slot p.slots s) ≡ true)
-  slot_held j slot at = (ready_at p.slots set (ready_in script (length p.slots) family p) are j slot at).1
+  slot_held j slot at = (ready_at p.slots set (ready_in script timeouts (length p.slots) family p) are j slot at).1
 
 -- ---- their slots
 
 abbrev pub AllSized : ℕ → List SeenProcess → Type 0
 AllSized n ps = (i : ℕ) (p : SeenProcess) → slice_get ps i ≡ Some p → length p.slots ≡ n
 
-module _ (script : Script) (n : ℕ) (seen_by : ℕ → Family) where
-  any_sized : (ps : List SeenProcess) → AllSized n ps → list_any (λ p. has_ready_in script (length p.slots) (seen_by p.pid) p) ps ≡ list_any (λ p. has_ready_in script n (seen_by p.pid) p) ps
+module _ (script : Script) (timeouts : Bool) (n : ℕ) (seen_by : ℕ → Family) where
+  any_sized : (ps : List SeenProcess) → AllSized n ps → list_any (λ p. has_ready_in script timeouts (length p.slots) (seen_by p.pid) p) ps ≡ list_any (λ p. has_ready_in script timeouts n (seen_by p.pid) p) ps
   any_sized [] sized = refl
   any_sized (p ∷ ps) sized =
-      ap (λ k. has_ready_in script k (seen_by p.pid) p || list_any (λ q. has_ready_in script (length q.slots) (seen_by q.pid) q) ps) (sized 0 p refl)
-      ∙ ap (λ b. has_ready_in script n (seen_by p.pid) p || b) (any_sized ps (λ i q at. sized (suc i) q at))
+      ap (λ k. has_ready_in script timeouts k (seen_by p.pid) p || list_any (λ q. has_ready_in script timeouts (length q.slots) (seen_by q.pid) q) ps) (sized 0 p refl)
+      ∙ ap (λ b. has_ready_in script timeouts n (seen_by p.pid) p || b) (any_sized ps (λ i q at. sized (suc i) q at))
 
-  among_sized : (ps : List SeenProcess) → AllSized n ps → candidates_among script seen_by ps ≡ flat_map (λ p. map (candidate_in script n (seen_by p.pid) p) (ready_in script n (seen_by p.pid) p)) ps
+  among_sized : (ps : List SeenProcess) → AllSized n ps → candidates_among script timeouts seen_by ps ≡ flat_map (λ p. map (candidate_in script timeouts n (seen_by p.pid) p) (ready_in script timeouts n (seen_by p.pid) p)) ps
   among_sized [] sized = refl
   among_sized (p ∷ ps) sized =
-      ap (λ k. map (candidate_in script k (seen_by p.pid) p) (ready_in script k (seen_by p.pid) p) ++ candidates_among script seen_by ps) (sized 0 p refl)
-      ∙ ap (λ cs. map (candidate_in script n (seen_by p.pid) p) (ready_in script n (seen_by p.pid) p) ++ cs) (among_sized ps (λ i q at. sized (suc i) q at))
+      ap (λ k. map (candidate_in script timeouts k (seen_by p.pid) p) (ready_in script timeouts k (seen_by p.pid) p) ++ candidates_among script timeouts seen_by ps) (sized 0 p refl)
+      ∙ ap (λ cs. map (candidate_in script timeouts n (seen_by p.pid) p) (ready_in script timeouts n (seen_by p.pid) p) ++ cs) (among_sized ps (λ i q at. sized (suc i) q at))
 
 -- ---- the verdict
 
@@ -64,15 +64,15 @@ verdict_of (Some why) ended ready full = verdict.Undefined why
 verdict_of None ended ready full = cond ended verdict.Complete (cond (not ready) verdict.Deadlock (cond full verdict.Budget verdict.Open))
 
 module _ (script : Script) (config : Config) (v : Seen) (n : ℕ) (can : AllCanStep config.slots v.processes v.made) where
-  by_stop : (o : Option Why) → verdict_of o (list_all (λ p. is_some p.ended) v.processes) (list_any (λ p. has_ready_in script config.slots (family_in v p.pid) p) v.processes) (nat_eq n config.budget) ≡ seen_verdict_by o script config v n
+  by_stop : (o : Option Why) → verdict_of o (list_all (λ p. is_some p.ended) v.processes) (list_any (λ p. has_ready_in script (has_timeouts config.format) config.slots (family_in v p.pid) p) v.processes) (nat_eq n config.budget) ≡ seen_verdict_by o script config v n
   by_stop None = refl
   by_stop (Some why) = refl
 
-  pub verdict_is : (o : Option Why) (ended ready full : Bool) → o ≡ v.stop → ended ≡ list_all (λ p. is_some p.ended) v.processes → ready ≡ list_any (λ p. has_ready_in script (length p.slots) (family_in v p.pid) p) v.processes → full ≡ nat_eq n config.budget
+  pub verdict_is : (o : Option Why) (ended ready full : Bool) → o ≡ v.stop → ended ≡ list_all (λ p. is_some p.ended) v.processes → ready ≡ list_any (λ p. has_ready_in script (has_timeouts config.format) (length p.slots) (family_in v p.pid) p) v.processes → full ≡ nat_eq n config.budget
       → verdict_of o ended ready full ≡ seen_verdict script config v n
   unfolding seen_verdict
   verdict_is o ended ready full at_stop at_end at_ready at_count =
-      (λ i. verdict_of (at_stop i) (at_end i) ((at_ready ∙ any_sized script config.slots (family_in v) v.processes (λ j p at. (can.each j p at).all)) i) (at_count i))
+      (λ i. verdict_of (at_stop i) (at_end i) ((at_ready ∙ any_sized script (has_timeouts config.format) config.slots (family_in v) v.processes (λ j p at. (can.each j p at).all)) i) (at_count i))
       ∙ by_stop v.stop
 
 -- ---- the choice
@@ -94,7 +94,7 @@ legal_if script config v high rise running (Some e) taken small = taken_is_legal
 
 module _ (script : Script) (config : Config) (v : Seen) (draw : Draw) (can : AllCanStep config.slots v.processes v.made) (running : is_some v.stop ≡ false) where
   abbrev all : List Candidate
-  all = candidates_among script (family_in v) v.processes
+  all = candidates_among script (has_timeouts config.format) (family_in v) v.processes
 
   whole : (answer : Pick) → answer ≡ pick_after 0 draw all → answer ≡ Here (option_and_then (entry_for draw.worker draw.choice) (item_at all draw.thread))
   unfolding pick_after
@@ -105,12 +105,12 @@ module _ (script : Script) (config : Config) (v : Seen) (draw : Draw) (can : All
       ∙ ap (λ (n : ℕ). Here (option_and_then (entry_for draw.worker draw.choice) (slice_get all (draw.thread % n)))) (zero-add (length all))
 
   -- the entry that is chosen
-  pub chosen_is : (entry : Option Entry) → Here entry ≡ pick_after 0 draw all → entry ≡ seen_chosen script config.slots v draw.worker draw.thread draw.choice
+  pub chosen_is : (entry : Option Entry) → Here entry ≡ pick_after 0 draw all → entry ≡ seen_chosen script config v draw.worker draw.thread draw.choice
   unfolding seen_candidates
   chosen_is entry is =
       cc (whole (Here entry) is)
-      ∙ ap (λ (cs : List Candidate). option_and_then (entry_for draw.worker draw.choice) (item_at cs draw.thread)) (among_sized script config.slots (family_in v) v.processes (λ i p at. (can.each i p at).all))
-      ∙ sym (ap (λ b. cond (not b) (option_and_then (entry_for draw.worker draw.choice) (item_at (seen_candidates script config.slots v) draw.thread)) None) running)
+      ∙ ap (λ (cs : List Candidate). option_and_then (entry_for draw.worker draw.choice) (item_at cs draw.thread)) (among_sized script (has_timeouts config.format) config.slots (family_in v) v.processes (λ i p at. (can.each i p at).all))
+      ∙ sym (ap (λ b. cond (not b) (option_and_then (entry_for draw.worker draw.choice) (item_at (seen_candidates script config v) draw.thread)) None) running)
 
   -- it is one of the candidates
   pub never_before : (i : ℕ) → Before i ≡ pick_after 0 draw all → ⊥

@@ -12,13 +12,13 @@ use Rattle.pct_machine.specs.declared.scheduler.Pick.{Pick}
 use Rattle.pct_machine.specs.declared.scheduler.Pick.TheVariants.{Here, Before}
 use Rattle.pct_machine.specs.ProcessSteps.{taken_in}
 
--- the threads of a process that are ready, as candidates
-abbrev pub candidates_of : Script → Family → SeenProcess → List Candidate
-candidates_of script family p = map (candidate_in script (length p.slots) family p) (ready_in script (length p.slots) family p)
+-- the threads of a process that are ready, as candidates, where the time of a wait may expire or not
+abbrev pub candidates_of : Script → Bool → Family → SeenProcess → List Candidate
+candidates_of script timeouts family p = map (candidate_in script timeouts (length p.slots) family p) (ready_in script timeouts (length p.slots) family p)
 
 -- those of some processes, each of which sees other processes by its id
-abbrev pub candidates_among : Script → (ℕ → Family) → List SeenProcess → List Candidate
-candidates_among script seen_by ps = flat_map (λ p. candidates_of script (seen_by p.pid) p) ps
+abbrev pub candidates_among : Script → Bool → (ℕ → Family) → List SeenProcess → List Candidate
+candidates_among script timeouts seen_by ps = flat_map (λ p. candidates_of script timeouts (seen_by p.pid) p) ps
 
 -- the candidate at an index, by the entry of the worker, or one of a number of other candidates before them
 abbrev pub pick_at : ℕ → ℕ → Draw → List Candidate → Pick

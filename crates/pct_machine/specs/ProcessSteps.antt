@@ -4,6 +4,7 @@ use Rattle.pct_model.specs.declared.script.Script.{Script}
 use Rattle.pct_model.specs.declared.schedule.Config.{Config}
 use Rattle.pct_model.specs.declared.schedule.Entry.{Entry}
 use Rattle.pct_model.specs.declared.transition.Transition.{Transition}
+use Rattle.pct_model.specs.Formats.{has_timeouts}
 use Rattle.pct_model.specs.OtherProcesses.{Family}
 use Rattle.pct_model.specs.World.{Thread}
 use Rattle.pct_engine_laws.specs.Seen.{SeenSlot, SeenProcess}
@@ -45,7 +46,7 @@ pub record HasThread (tid : ℕ) (slots : List SeenSlot) : Type 0 where
 
 -- the transition that an entry takes in the process that it names, which sees these other processes, if it takes one
 abbrev pub taken_in : Script → Config → Family → SeenProcess → Entry → Option Transition
-taken_in script config family p e = option_and_then (if_offered_in script config.slots config.passes family p e) (thread_with config.slots e.tid p.slots)
+taken_in script config family p e = option_and_then (if_offered_in script (has_timeouts config.format) config.slots config.passes family p e) (thread_with config.slots e.tid p.slots)
 
 -- a transition, if there is one
 abbrev pub some_if : Bool → Transition → Option Transition

@@ -3,6 +3,7 @@
 ghost use Rattle.std.specs.Prelude.{◌≡◌, ◌+◌, ◌*◌, ◌<◌, ◌^◌, true, false, length, map, Some, is_some, IfSome};
 ghost use Rattle.std.specs.List.{list_all, list_any};
 ghost use Rattle.pct_model.specs.Chosen.{entry_for};
+ghost use Rattle.pct_model.specs.Formats.{has_timeouts};
 ghost use Rattle.pct_model.specs.World.{Thread};
 ghost use Rattle.pct_engine_laws.specs.SeenSteps.{has_ready_in, ready_in, candidate_in};
 ghost use Rattle.pct_process.specs.ProcessViews.{thread_on_slot};
@@ -27,7 +28,7 @@ pub(crate) fn all_ended(processes: &Processes) -> bool
 /// Whether a thread of one of the processes is ready.
 pub(crate) fn any_ready(program: &Program, processes: &Processes) -> bool
     requires { processes.now.made + 1 < 2 ^ 32 }
-    ensures { result ≡ list_any (λ p. has_ready_in program.now.script (length p.slots) (families processes.now p.pid) p) processes.now.processes }
+    ensures { result ≡ list_any (λ p. has_ready_in program.now.script (has_timeouts program.now.config.format) (length p.slots) (families processes.now p.pid) p) processes.now.processes }
 {
     processes.as_slice().iter().any(|place| place.has_ready(processes.around(program, place.pid())))
 }
@@ -44,7 +45,7 @@ pub(crate) fn pick(
     requires can { EachCanStep program.now.config.slots places.now }
     requires made { processes.now.made + 1 < 2 ^ 32 }
     requires few { before + 64 * length places.now < 2 ^ 32 }
-    ensures value { result ≡ pick_after before draw (candidates_among program.now.script (families processes.now) places.now) }
+    ensures value { result ≡ pick_after before draw (candidates_among program.now.script (has_timeouts program.now.config.format) (families processes.now) places.now) }
     ensures taken { IfHere result (λ e. list_any (takes_entry program.now.script program.now.config (families processes.now) e) places.now ≡ true) }
 {
     let Some((place, rest)) = places.split_first() else {
@@ -70,7 +71,7 @@ pub(crate) fn pick(
 // The slots of the threads of a process that are ready.
 fn ready(program: &Program, processes: &Processes, place: &Place) -> SlotSet
     requires { processes.now.made + 1 < 2 ^ 32 }
-    ensures { map (thread_on_slot place.now.slots) result ≡ map (λ t. Some t) (ready_in program.now.script (length place.now.slots) (families processes.now place.now.pid) place.now) }
+    ensures { map (thread_on_slot place.now.slots) result ≡ map (λ t. Some t) (ready_in program.now.script (has_timeouts program.now.config.format) (length place.now.slots) (families processes.now place.now.pid) place.now) }
 {
     place.ready(processes.around(program, place.pid()))
 }
@@ -87,7 +88,7 @@ fn entry_on(
     requires made { processes.now.made + 1 < 2 ^ 32 }
     requires held { is_some (thread_on_slot place.now.slots slot) ≡ true }
     requires live { is_some place.now.ended ≡ false }
-    ensures value { (t : Thread) → thread_on_slot place.now.slots slot ≡ Some t → result ≡ entry_for draw.worker draw.choice (candidate_in program.now.script (length place.now.slots) (families processes.now place.now.pid) place.now t) }
+    ensures value { (t : Thread) → thread_on_slot place.now.slots slot ≡ Some t → result ≡ entry_for draw.worker draw.choice (candidate_in program.now.script (has_timeouts program.now.config.format) (length place.now.slots) (families processes.now place.now.pid) place.now t) }
     ensures taken { IfSome result (λ e. takes_entry program.now.script program.now.config (families processes.now) e place.now ≡ true) }
 {
     place.entry_on(processes.around(program, place.pid()), slot, draw)

@@ -92,7 +92,7 @@ impl Machine {
     /// worker within the limit. `None` exactly if the run was stopped or no thread is ready.
     pub fn chosen(&self, program: &Program, draw: Draw) -> Option<Entry>
         requires { AllCanStep program.now.config.slots self.now.processes self.now.made }
-        ensures value { result ≡ seen_chosen program.now.script program.now.config.slots self.now draw.worker draw.thread draw.choice }
+        ensures value { result ≡ seen_chosen program.now.script program.now.config self.now draw.worker draw.thread draw.choice }
         ensures legal { draw.worker ≤ MAX_WORKER → IfSome result (λ e. is_some (legal_transition program.now.script program.now.config self.now e) ≡ true) }
     {
         if self.stop.is_some() {

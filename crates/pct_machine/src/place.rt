@@ -31,6 +31,7 @@ impl Place {
     ghost use Rattle.std.specs.Prelude.{◌≡◌, ◌≤◌, true, false, ◌&&◌, nat_eq, [], ◌∷◌, length, map, Some, is_some, if◌then◌else◌, IfOk, IfSome};
     ghost use Rattle.pct_model.specs.Chosen.{entry_for};
     ghost use Rattle.pct_model.specs.declared.limits.TheConstants.{MAX_SLOTS};
+    ghost use Rattle.pct_model.specs.Formats.{has_timeouts};
     ghost use Rattle.pct_model.specs.World.{Thread, first_process};
     ghost use Rattle.pct_engine_laws.specs.Seen.{is_live_seen, seen_process, relative_in, process_seen, child_seen};
     ghost use Rattle.pct_engine_laws.specs.SeenSteps.{ready_in, has_ready_in, candidate_in};
@@ -100,7 +101,7 @@ impl Place {
 
     /// The slots of the threads that are ready. A process that has ended has none.
     pub fn ready(&self, around: Surroundings) -> SlotSet
-        ensures { map (thread_on_slot self.now.slots) result ≡ map (λ t. Some t) (ready_in around.entry.program.now.script (length self.now.slots) (other_processes around.entry.family) self.now) }
+        ensures { map (thread_on_slot self.now.slots) result ≡ map (λ t. Some t) (ready_in around.entry.program.now.script (has_timeouts around.entry.program.now.config.format) (length self.now.slots) (other_processes around.entry.family) self.now) }
     {
         if self.has_ended() {
             return SlotSet::new();
@@ -110,7 +111,7 @@ impl Place {
 
     /// Whether a thread is ready.
     pub fn has_ready(&self, around: Surroundings) -> bool
-        ensures { result ≡ has_ready_in around.entry.program.now.script (length self.now.slots) (other_processes around.entry.family) self.now }
+        ensures { result ≡ has_ready_in around.entry.program.now.script (has_timeouts around.entry.program.now.config.format) (length self.now.slots) (other_processes around.entry.family) self.now }
     {
         self.ready(around).len() > 0
     }
@@ -121,7 +122,7 @@ impl Place {
         requires can { CanStep around.program.now.config.slots self.now }
         requires held { is_some (thread_on_slot self.now.slots slot) ≡ true }
         requires live { is_some self.now.ended ≡ false }
-        ensures value { (t : Thread) → thread_on_slot self.now.slots slot ≡ Some t → result ≡ entry_for draw.worker draw.choice (candidate_in around.entry.program.now.script (length self.now.slots) (other_processes around.entry.family) self.now t) }
+        ensures value { (t : Thread) → thread_on_slot self.now.slots slot ≡ Some t → result ≡ entry_for draw.worker draw.choice (candidate_in around.entry.program.now.script (has_timeouts around.entry.program.now.config.format) (length self.now.slots) (other_processes around.entry.family) self.now t) }
         ensures taken { IfSome result (λ e. takes_in around.entry.program.now.script around.entry.program.now.config (other_processes around.entry.family) e self.now ≡ true) }
     {
         let alt = choice_by(around, &self.state, slot, draw.choice)?;

@@ -25,8 +25,8 @@ use Rattle.pct_model.specs.declared.transition.Transition.{Transition}
 use Rattle.pct_model.specs.NextStatement.{NextStatement, StatementIn}
 use Rattle.pct_model.specs.Points.{point_at}
 use Rattle.pct_model.specs.ThreadCalls.{join_point}
-use Rattle.pct_model.specs.CondCalls.{cond_wait_point, leaves_wait, hands_on}
-use Rattle.pct_model.specs.SemCalls.{sem_wait_point}
+use Rattle.pct_model.specs.CondCalls.{cond_wait_point, cond_timedwait_point, leaves_wait, hands_on}
+use Rattle.pct_model.specs.SemCalls.{sem_wait_point, sem_timedwait_point}
 use Rattle.pct_model.specs.ForkCalls.{waitpid_point}
 use Rattle.pct_model.specs.Transitions.{goes_on, acts, no_change}
 
@@ -84,7 +84,9 @@ point_kind index = option_map (λ point. point.kind) (point_at index)
 unfoldable pub called_kind : Stmt → Option PointKind
 called_kind (statement.Join id d) = point_kind join_point
 called_kind (statement.CondWait c m) = point_kind cond_wait_point
+called_kind (statement.CondTimedWait result c m) = point_kind cond_timedwait_point
 called_kind (statement.SemWait s) = point_kind sem_wait_point
+called_kind (statement.SemTimedWait result s) = point_kind sem_timedwait_point
 called_kind (statement.WaitPid result pid value) = point_kind waitpid_point
 called_kind statement.TestCancel = point_kind testcancel_point
 called_kind (statement.PointCall index) = point_kind index
@@ -135,4 +137,5 @@ acts_on_request u (status.InWaitPid pid) = record (acts (what.EndingCanceled ∷
 acts_on_request u (status.Waiting c m) = leaves_wait c m
 acts_on_request u (status.Reacquire c m cause.Signalled) = hands_on u c m
 acts_on_request u (status.Reacquire c m cause.Broadcast) = leaves_wait c m
+acts_on_request u (status.Reacquire c m cause.TimedOut) = leaves_wait c m
 acts_on_request u _ = no_change

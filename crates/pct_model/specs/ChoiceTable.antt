@@ -1,4 +1,4 @@
--- What each thread may do next: its choices, in the order `go`, then `act`, or the others by the slot or the place of the number
+-- What each thread may do next: its choices, in the order `go`, then `expire`, then `act`, or the others by the slot or the place of the number
 -- that they name. A thread that holds its slot is ready if it has a choice. Legality (Step.antt), deadlock (Run.antt) and the
 -- scheduler's choice (Chosen.antt) derive from this table. The choices are:
 -- `go`: the thread goes on: it executes its statement or stops at it, fails for lack of room, returns from the call in which it is
@@ -8,6 +8,7 @@
 -- `new n`: the thread or the key that it creates gets this number
 -- `dtor n`: it calls the destructor of this key
 -- `pick n`: by pthread_cond_signal it unblocks the thread with this id
+-- `expire`: the time of the wait in which it is suspended expires
 use Rattle.std.specs.Prelude.{ℕ, Bool, true, false, not, ◌&&◌, List, [], ◌∷◌, ◌++◌, if◌then◌else◌, map, nat_eq, nat_lt, slice_index}
 use Rattle.std.specs.List.{list_any}
 use Rattle.pct_model.specs.declared.frame.Frame.{Frame}
@@ -23,6 +24,7 @@ use Rattle.pct_model.specs.declared.state.Status.{Status}
 use Rattle.pct_model.specs.declared.state.Status.TheVariants as status
 use Rattle.pct_model.specs.Cancelability.{is_deliverable, is_asynchronous}
 use Rattle.pct_model.specs.CancelCalls.{called_kind, is_required, is_optional, may_pass_point}
+use Rattle.pct_model.specs.Formats.{is_timed}
 use Rattle.pct_model.specs.Keys.{new_keys, left_keys}
 use Rattle.pct_model.specs.World.{Thread, SharedState, Process, World}
 use Rattle.pct_model.specs.NextStatement.{NextStatement, NoStatement, StatementIn, next_of, body_at}
@@ -42,6 +44,20 @@ go_if false = []
 abbrev pub act_if : Bool → List Alt
 act_if true = alt.Act 0 ∷ []
 act_if false = []
+
+-- `expire`, if the test holds: the time of a wait expires
+abbrev pub expire_if : Bool → List Alt
+expire_if true = alt.Expire ∷ []
+expire_if false = []
+
+-- the next statement is a wait with a time: pthread_cond_timedwait or sem_timedwait
+abbrev pub is_timed_wait : NextStatement → Bool
+is_timed_wait NoStatement = false
+is_timed_wait (StatementIn frame s) = is_timed s
+
+-- the time of a wait at this statement may expire. There is no clock: it may do so at any moment of the wait, a choice of this host
+abbrev pub can_expire : Environment → NextStatement → Bool
+can_expire environment next = environment.timeouts && is_timed_wait next
 
 -- a row: a test, and the choices if it holds
 abbrev pub ChoiceRow : Type 0
@@ -87,6 +103,7 @@ hand_on_or_act waiters = map (λ waiter. alt.Act waiter.id) waiters
 abbrev pub unblocked_acts : Cause → List Waiter → List Alt
 unblocked_acts cause.Signalled waiters = hand_on_or_act waiters
 unblocked_acts cause.Broadcast waiters = alt.Act 0 ∷ []
+unblocked_acts cause.TimedOut waiters = alt.Act 0 ∷ []
 unblocked_acts cause.Canceled waiters = []
 
 -- `new` for each of these numbers; `go` if there are none
@@ -150,15 +167,18 @@ module _ (body : List Stmt) (shared : SharedState) (t : Thread) (environment : E
   -- is unspecified whether it acts or goes on: then both are choices
   choices_at next (status.AtPoint index) = go_if (may_pass_point index) ++ act_if (is_deliverable t.state t.pending)
   choices_at next (status.Joining id) = go_if (is_ended_thread id environment) ++ act_if (is_deliverable t.state t.pending)
-  -- XSH sem_wait: the thread is suspended until the count is above 0
-  choices_at next (status.InSem s) = go_if (nat_lt 0 (slice_index shared.counts s)) ++ act_if (is_deliverable t.state t.pending)
+  -- XSH sem_wait, sem_timedwait: the thread is suspended until the count is above 0, or its time expires. That it does not expire while the
+  -- count is above 0 is a choice of this host
+  choices_at next (status.InSem s) =
+      go_if (nat_lt 0 (slice_index shared.counts s)) ++ expire_if (can_expire environment next && not (nat_lt 0 (slice_index shared.counts s))) ++ act_if (is_deliverable t.state t.pending)
   -- XSH waitpid: the thread is suspended until the child has ended; also if another thread has reaped it meanwhile, it goes on
   choices_at next (status.InWaitPid pid) = go_if (not (is_running_child pid environment.family)) ++ act_if (is_deliverable t.state t.pending)
-  -- XSH pthread_cond_wait: the thread is blocked until a signal or a broadcast unblocks it. It is not unblocked otherwise, which the
-  -- standard allows (spurious wakeups): a choice of this host
-  choices_at next (status.Waiting c m) = act_if (is_deliverable t.state t.pending)
+  -- XSH pthread_cond_wait, pthread_cond_timedwait: the thread is blocked until a signal or a broadcast unblocks it, or its time expires. It
+  -- is not unblocked otherwise, which the standard allows (spurious wakeups): a choice of this host
+  choices_at next (status.Waiting c m) = expire_if (can_expire environment next) ++ act_if (is_deliverable t.state t.pending)
   -- XSH pthread_cond_wait: a thread that was unblocked returns, or begins to end, once it can own the mutex. One that was unblocked by a
-  -- signal or a broadcast may still act upon a request (XSH 2.9.5.2); if it was by a signal, another thread gets the signal, if one waits
+  -- signal, by a broadcast or as its time expired may still act upon a request (XSH 2.9.5.2); if it was by a signal, another thread gets the
+  -- signal, if one waits
   choices_at next (status.Reacquire c m why) =
       go_if (is_free_mutex m shared) ++ (if is_deliverable t.state t.pending then unblocked_acts why (environment.waiters c) else [])
   choices_at next status.Ending = ending_choices t.handlers
@@ -170,7 +190,7 @@ module _ (body : List Stmt) (shared : SharedState) (t : Thread) (environment : E
 
 -- the choices of a thread of a process, in a state
 abbrev pub choices_of : Script → Config → World → Process → Thread → List Alt
-choices_of script config w p t = choices_at (body_at script t.frames) p.shared t (environment_of config.slots w p t.id) (next_of script t.frames) t.status
+choices_of script config w p t = choices_at (body_at script t.frames) p.shared t (environment_of config w p t.id) (next_of script t.frames) t.status
 
 -- ---- equality of choices, and membership
 
@@ -199,6 +219,11 @@ abbrev pub is_dtor : ℕ → Alt → Bool
 is_dtor n (alt.Dtor m) = nat_eq n m
 is_dtor n _ = false
 
+-- the choice is `expire`
+abbrev pub is_expire : Alt → Bool
+is_expire alt.Expire = true
+is_expire _ = false
+
 -- the two choices are equal
 abbrev pub same_choice : Alt → Alt → Bool
 same_choice alt.Go other = is_go other
@@ -206,6 +231,7 @@ same_choice (alt.Act n) other = is_act n other
 same_choice (alt.New n) other = is_new n other
 same_choice (alt.Pick n) other = is_pick n other
 same_choice (alt.Dtor n) other = is_dtor n other
+same_choice alt.Expire other = is_expire other
 
 -- the choice is among these: membership in the list
 abbrev pub offers : List Alt → Alt → Bool

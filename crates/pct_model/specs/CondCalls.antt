@@ -1,7 +1,10 @@
--- Condition variables (XSH pthread_cond_wait, pthread_cond_signal, pthread_cond_broadcast). `next` is the pc of the next statement.
+-- Condition variables (XSH pthread_cond_wait, pthread_cond_timedwait, pthread_cond_signal, pthread_cond_broadcast). There is no clock: that
+-- the time of a wait expires is a choice of the scheduler (ChoiceTable.antt). `next` is the pc of the next statement.
 use Rattle.std.specs.Prelude.{ℕ, suc, Bool, false, if◌then◌else◌, [], ◌∷◌, nat_eq, Some}
+use Rattle.pct_model.specs.declared.event.Caller.TheVariants as caller
 use Rattle.pct_model.specs.declared.event.What.TheVariants as what
-use Rattle.pct_model.specs.declared.point.TheConstants.{COND_WAIT_POINT}
+use Rattle.pct_model.specs.declared.numbers.TheConstants.{ETIMEDOUT}
+use Rattle.pct_model.specs.declared.point.TheConstants.{COND_WAIT_POINT, COND_TIMEDWAIT_POINT}
 use Rattle.pct_model.specs.declared.schedule.Alt.{Alt}
 use Rattle.pct_model.specs.declared.schedule.Alt.TheVariants as alt
 use Rattle.pct_model.specs.declared.state.Cause.{Cause}
@@ -21,6 +24,10 @@ use Rattle.pct_model.specs.Transitions.{goes_on, acts, no_change}
 abbrev pub cond_wait_point : ℕ
 cond_wait_point = COND_WAIT_POINT
 
+-- the index of pthread_cond_timedwait in this table
+abbrev pub cond_timedwait_point : ℕ
+cond_timedwait_point = COND_TIMEDWAIT_POINT
+
 -- ---- unblocking
 
 -- the status is that of a thread that waits on condition variable c
@@ -33,18 +40,29 @@ abbrev pub unblocked : Cause → Status → Status
 unblocked why (status.Waiting c m) = status.Reacquire c m why
 unblocked why s = s
 
--- ---- pthread_cond_wait
+-- ---- pthread_cond_wait, pthread_cond_timedwait
 
--- the thread releases mutex m and blocks on condition variable c, atomically
-unfoldable pub begins_wait : ℕ → ℕ → Transition
-begins_wait c m = record (acts (what.Called cond_wait_point ∷ what.Released m ∷ [])) { own = Some (own_action.SetStatus (status.Waiting c m)); shared = Some (shared_action.OwnMutex m 0) }
+-- the thread calls the function with an index in the table of cancellation points: it releases mutex m and blocks on condition variable c,
+-- atomically
+unfoldable pub begins_wait : (point c m : ℕ) → Transition
+begins_wait point c m = record (acts (what.Called point ∷ what.Released m ∷ [])) { own = Some (own_action.SetStatus (status.Waiting c m)); shared = Some (shared_action.OwnMutex m 0) }
 
--- a thread that was unblocked owns its mutex again, and returns; or, if it acted upon a request, begins to end, so that it owns the mutex
--- before its first cleanup handler (XSH pthread_cond_wait)
+-- the time of a wait expires: the thread is unblocked (XSH pthread_cond_timedwait)
+unfoldable pub expires : ℕ → ℕ → Transition
+expires c m = record (acts (what.WaitExpired c ∷ [])) { own = Some (own_action.SetStatus (status.Reacquire c m cause.TimedOut)) }
+
+-- a thread that was unblocked owns its mutex again, and returns: with ETIMEDOUT if its time expired, and else with 0, which
+-- pthread_cond_wait drops; or, if it acted upon a request, it begins to end, so that it owns the mutex before its first cleanup handler (XSH
+-- pthread_cond_wait)
 unfoldable pub reacquires : (id c m : ℕ) → Cause → NextStatement → Transition
 reacquires id c m cause.Canceled next = record (acts (what.Acquired m ∷ what.EndingInWait c m ∷ [])) { own = Some (own_action.BeginEnd Canceled); shared = Some (shared_action.OwnMutex m id) }
+reacquires id c m cause.TimedOut (StatementIn frame (statement.CondTimedWait result cond mutex)) =
+    record (goes_on (suc frame.pc) (what.Acquired m ∷ what.Answer caller.CondTimedWait ETIMEDOUT ∷ [])) { writes = (result, ETIMEDOUT) ∷ []; shared = Some (shared_action.OwnMutex m id) }
+reacquires id c m cause.TimedOut next = no_change
 reacquires id c m why (StatementIn frame (statement.CondWait cond mutex)) =
     record (goes_on (suc frame.pc) (what.Acquired m ∷ what.Done cond_wait_point ∷ [])) { shared = Some (shared_action.OwnMutex m id) }
+reacquires id c m why (StatementIn frame (statement.CondTimedWait result cond mutex)) =
+    record (goes_on (suc frame.pc) (what.Acquired m ∷ what.Done cond_timedwait_point ∷ [])) { writes = (result, 0) ∷ []; shared = Some (shared_action.OwnMutex m id) }
 reacquires id c m why next = no_change
 
 -- a thread in a wait acts upon a request: before it begins to end, it waits until it owns the mutex again (XSH pthread_cond_wait)

@@ -3,8 +3,10 @@
 use Rattle.std.specs.Prelude.{ℕ, Bool, false, not, ◌&&◌, ◌||◌, if◌then◌else◌, List, [], ◌∷◌, flat_map, Option, Some, None, is_none, is_some, nat_eq, option_and_then}
 use Rattle.std.specs.List.{list_all, list_any}
 use Rattle.std.specs.Option.{option_map_or}
+use Rattle.pct_model.specs.declared.schedule.Config.{Config}
 use Rattle.pct_model.specs.declared.state.Status.{Status}
 use Rattle.pct_model.specs.declared.state.Status.TheVariants as status
+use Rattle.pct_model.specs.Formats.{has_timeouts}
 use Rattle.pct_model.specs.OtherProcesses.{Family, family_of}
 use Rattle.pct_model.specs.World.{Thread, Process, World}
 use Rattle.pct_model.specs.ThreadSlots.{holds_slot, free_ids, by_slot, with_id}
@@ -31,6 +33,8 @@ pub record Environment : Type 0 where
   pub is_last : Bool
   -- the children of the process, and the id that a new process gets
   pub family : Family
+  -- the time of a wait may expire
+  pub timeouts : Bool
 
 -- no thread has the id, or the lifetime of the id is over (XSH 2.9.2)
 abbrev pub names_no_thread : ℕ → Environment → Bool
@@ -82,13 +86,14 @@ waiters_among c threads = flat_map (λ t. waiter_by c t.id t.status) threads
 abbrev pub is_last : ℕ → List Thread → Bool
 is_last id threads = list_all (λ t. not (holds_slot t) || (t.ended || nat_eq t.id id)) threads
 
--- what the thread with an id of a process with a number of slots sees of the others
-unfoldable pub environment_of : ℕ → World → Process → ℕ → Environment
-environment_of slots w p tid = record {
+-- what the thread with an id of a process sees of the others, in a run of this configuration
+unfoldable pub environment_of : Config → World → Process → ℕ → Environment
+environment_of config w p tid = record {
   named = λ id. with_id id p.threads;
   another_joins = λ id. is_joined_by_one id p.threads;
-  new_ids = free_ids slots p.threads;
-  waiters = λ c. waiters_among c (by_slot slots p.threads);
+  new_ids = free_ids config.slots p.threads;
+  waiters = λ c. waiters_among c (by_slot config.slots p.threads);
   is_last = is_last tid p.threads;
   family = family_of w p.pid;
+  timeouts = has_timeouts config.format;
 }

@@ -34,6 +34,8 @@ line_kind_of_caller caller.AtFork = line_kind.AtFork
 line_kind_of_caller caller.Fork = line_kind.Fork
 line_kind_of_caller caller.WaitPid = line_kind.WaitPid
 line_kind_of_caller caller.AtExit = line_kind.AtExit
+line_kind_of_caller caller.CondTimedWait = line_kind.CondTimedWait
+line_kind_of_caller caller.SemTimedWait = line_kind.SemTimedWait
 
 -- the name of a call
 abbrev pub caller_name : Caller → List ℕ
@@ -86,6 +88,7 @@ event_words script (what.Released m) = word keyword.Release ∷ mutex_name scrip
 event_words script (what.Signalled c id) = word keyword.Signal ∷ cond_name script c ∷ decimal id ∷ []
 event_words script (what.BroadcastTo c n) = word keyword.Broadcast ∷ cond_name script c ∷ decimal n ∷ []
 event_words script (what.WaitCanceled c) = word keyword.CancelWait ∷ cond_name script c ∷ []
+event_words script (what.WaitExpired c) = word keyword.Expire ∷ cond_name script c ∷ []
 event_words script (what.HandedOn c id) = word keyword.HandOn ∷ cond_name script c ∷ decimal id ∷ []
 event_words script (what.Taken s) = word keyword.Take ∷ sem_name script s ∷ []
 event_words script (what.Posted s) = word keyword.Post ∷ sem_name script s ∷ []

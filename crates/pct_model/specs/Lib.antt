@@ -20,6 +20,7 @@ pub mod Keys
 pub mod World
 pub mod ThreadSlots
 pub mod NextStatement
+pub mod Formats
 pub mod OtherProcesses
 pub mod Environment
 pub mod Transitions

@@ -94,9 +94,11 @@ syntax_of line_kind.GetSpecific = line (codes "pthread_getspecific") (Dest ∷ O
 syntax_of line_kind.Lock = line (codes "pthread_mutex_lock") (mutex ∷ []) role.Plain
 syntax_of line_kind.Unlock = line (codes "pthread_mutex_unlock") (mutex ∷ []) role.Plain
 syntax_of line_kind.CondWait = line (codes "pthread_cond_wait") (cond_variable ∷ mutex ∷ []) role.Other
+syntax_of line_kind.CondTimedWait = line (codes "pthread_cond_timedwait") (Dest ∷ cond_variable ∷ mutex ∷ []) role.Other
 syntax_of line_kind.Signal = line (codes "pthread_cond_signal") (cond_variable ∷ []) role.Other
 syntax_of line_kind.Broadcast = line (codes "pthread_cond_broadcast") (cond_variable ∷ []) role.Other
 syntax_of line_kind.SemWait = line (codes "sem_wait") (semaphore ∷ []) role.Other
+syntax_of line_kind.SemTimedWait = line (codes "sem_timedwait") (Dest ∷ semaphore ∷ []) role.Other
 syntax_of line_kind.SemPost = line (codes "sem_post") (semaphore ∷ []) role.Other
 syntax_of line_kind.AtFork = line (codes "pthread_atfork") (Dest ∷ OptionalPlainFunction ∷ OptionalPlainFunction ∷ OptionalPlainFunction ∷ []) role.Other
 syntax_of line_kind.Fork = line (codes "fork") (Dest ∷ Dest ∷ []) role.Other
@@ -130,9 +132,9 @@ line_kinds =
     line_kind.Declares kind.Function ∷ line_kind.Emit ∷ line_kind.Set ∷ line_kind.Add ∷ line_kind.Nop ∷ line_kind.If ∷ line_kind.Else ∷ line_kind.While ∷
     line_kind.End ∷ line_kind.Do ∷ line_kind.Return ∷ line_kind.Create ∷ line_kind.Join ∷ line_kind.Detach ∷ line_kind.CancelThread ∷ line_kind.SelfId ∷
     line_kind.ThreadExit ∷ line_kind.TestCancel ∷ line_kind.SetState ∷ line_kind.SetMode ∷ line_kind.Push ∷ line_kind.Pop ∷ line_kind.KeyCreate ∷
-    line_kind.KeyDelete ∷ line_kind.SetSpecific ∷ line_kind.GetSpecific ∷ line_kind.Lock ∷ line_kind.Unlock ∷ line_kind.CondWait ∷ line_kind.Signal ∷
-    line_kind.Broadcast ∷ line_kind.SemWait ∷ line_kind.SemPost ∷ line_kind.AtFork ∷ line_kind.Fork ∷ line_kind.WaitPid ∷ line_kind.AtExit ∷
-    line_kind.ProcExit ∷ line_kind.ProcExitNow ∷ []
+    line_kind.KeyDelete ∷ line_kind.SetSpecific ∷ line_kind.GetSpecific ∷ line_kind.Lock ∷ line_kind.Unlock ∷ line_kind.CondWait ∷
+    line_kind.CondTimedWait ∷ line_kind.Signal ∷ line_kind.Broadcast ∷ line_kind.SemWait ∷ line_kind.SemTimedWait ∷ line_kind.SemPost ∷
+    line_kind.AtFork ∷ line_kind.Fork ∷ line_kind.WaitPid ∷ line_kind.AtExit ∷ line_kind.ProcExit ∷ line_kind.ProcExitNow ∷ []
 
 -- a wait that no thread of a script ends: for an event outside the script, or for a signal
 abbrev pub is_foreign : PointWait → Bool

@@ -14,6 +14,7 @@ use Rattle.pct_model.specs.declared.keyword.Keyword.{Keyword}
 use Rattle.pct_model.specs.declared.keyword.Keyword.TheVariants as keyword
 use Rattle.pct_model.specs.declared.limits.TheConstants.{MAX_INPUT}
 use Rattle.pct_model.specs.Keywords.{keyword_text, line_text}
+use Rattle.pct_model.specs.Formats.{config_for}
 use Rattle.pct_model.specs.Points.{points_text}
 use Rattle.pct_model.specs.Checks.{FirstFault}
 use Rattle.pct_model.specs.Spells.{Spells}
@@ -178,7 +179,7 @@ pub record Replays (words : List (List ℕ)) (input : List ℕ) (code : ℕ) (te
   pub code_is : code ≡ code_of_verdict (verdict_of script config after.world (length entries))
   pub text_is : report script config entries ≡ Some text
 
--- `run` with these options, under this schedule: the code is that of the verdict, the text is the report
+-- `run` with these options and the format of the script, under this schedule: the code is that of the verdict, the text is the report
 pub record Runs (words : List (List ℕ)) (input : List ℕ) (schedule : List Entry) (code : ℕ) (text : List ℕ) : Type 0 where
   pub options : RunOptions
   pub accepted : run_options words ≡ Some options
@@ -186,9 +187,9 @@ pub record Runs (words : List (List ℕ)) (input : List ℕ) (schedule : List En
   pub script : Script
   pub spelled : Spells input script
   pub after : Run
-  pub is_run : run script options.config schedule ≡ Some after
-  pub code_is : code ≡ code_of_verdict (verdict_of script options.config after.world (length schedule))
-  pub text_is : report script options.config schedule ≡ Some text
+  pub is_run : run script (config_for script options.config) schedule ≡ Some after
+  pub code_is : code ≡ code_of_verdict (verdict_of script (config_for script options.config) after.world (length schedule))
+  pub text_is : report script (config_for script options.config) schedule ≡ Some text
 
 -- `check`: the text is the canonical text of the script
 pub record Checks (words : List (List ℕ)) (input : List ℕ) (code : ℕ) (text : List ℕ) : Type 0 where

@@ -9,6 +9,7 @@ use Rattle.pct_model.specs.declared.event.Event.{Event}
 use Rattle.pct_model.specs.declared.stop.Verdict.{Verdict}
 use Rattle.pct_model.specs.declared.stop.Verdict.TheVariants as verdict
 use Rattle.pct_model.specs.declared.keyword.Keyword.TheVariants as keyword
+use Rattle.pct_model.specs.Formats.{format_number}
 use Rattle.pct_model.specs.Keywords.{keyword_text, text_of}
 use Rattle.pct_model.specs.Run.{Run, run, verdict_of}
 use Rattle.pct_model.specs.StopTexts.{stop_words}
@@ -33,14 +34,15 @@ alt_words (alt.Act n) = keyword_text keyword.Act ∷ decimal n ∷ []
 alt_words (alt.New n) = keyword_text keyword.New ∷ decimal n ∷ []
 alt_words (alt.Pick n) = keyword_text keyword.Pick ∷ decimal n ∷ []
 alt_words (alt.Dtor n) = keyword_text keyword.Dtor ∷ decimal n ∷ []
+alt_words alt.Expire = keyword_text keyword.Expire ∷ []
 
 -- the line of an entry: `WORKER PROCESS THREAD CHOICE`
 unfoldable pub entry_line : Entry → List (List ℕ)
 entry_line e = decimal e.worker ∷ decimal e.pid ∷ decimal e.tid ∷ alt_words e.alt
 
--- the first line of a schedule, in format 1
+-- the first line of a schedule
 unfoldable pub header_line : Config → List (List ℕ)
-header_line c = keyword_text keyword.Schedule ∷ decimal 1 ∷ decimal c.budget ∷ decimal c.passes ∷ decimal c.slots ∷ []
+header_line c = keyword_text keyword.Schedule ∷ decimal (format_number c.format) ∷ decimal c.budget ∷ decimal c.passes ∷ decimal c.slots ∷ []
 
 -- the last line of a schedule with n entries
 unfoldable pub end_line : ℕ → List (List ℕ)
@@ -64,14 +66,14 @@ verdict_words (verdict.Undefined w) = stop_words w
 unfoldable pub verdict_line : Verdict → List (List ℕ)
 verdict_line v = keyword_text keyword.Verdict ∷ verdict_words v
 
--- the first line of a report, in format 1
-unfoldable pub title_line : List (List ℕ)
-title_line = keyword_text keyword.Report ∷ decimal 1 ∷ []
+-- the first line of a report
+unfoldable pub title_line : Config → List (List ℕ)
+title_line c = keyword_text keyword.Report ∷ decimal (format_number c.format) ∷ []
 
 -- the lines of a report: title, events in order, verdict and schedule
 unfoldable pub report_lines : Script → Config → List Event → Verdict → List Entry → List (List (List ℕ))
 report_lines script config events v entries =
-    (title_line ∷ [])
+    (title_line config ∷ [])
     ++ map (event_line script) events
     ++ (verdict_line v ∷ [])
     ++ schedule_lines config entries

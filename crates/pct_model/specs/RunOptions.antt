@@ -9,6 +9,7 @@ use Rattle.pct_model.specs.declared.run_options.RunOption.{RunOption}
 use Rattle.pct_model.specs.declared.run_options.RunOption.TheVariants as option
 use Rattle.pct_model.specs.declared.run_options.RunOptions.{RunOptions}
 use Rattle.pct_model.specs.declared.schedule.Config.{Config}
+use Rattle.pct_model.specs.declared.schedule.Format.TheVariants.{One}
 use Rattle.pct_model.specs.Keywords.{keyword_text}
 use Rattle.pct_model.specs.LineParsing.{is_empty}
 use Rattle.pct_model.specs.Lines.{◌>>=◌}
@@ -87,7 +88,7 @@ number_given o default given = number_by o default (values_given o given)
 
 -- ---- the numbers of a run
 
--- the numbers of a run with these options: none is given twice. The default of `--turns` is the budget of the run, be it given or not
+-- the numbers of a run with these options: none is given twice. The format is that of the script, once it is read. The default of `--turns` is the budget of the run, be it given or not
 abbrev pub numbers_given : List GivenOption → Option RunOptions
 numbers_given given =
     number_given option.Budget DEFAULT_BUDGET given >>= λ budget.
@@ -96,7 +97,7 @@ numbers_given given =
     number_given option.Seed DEFAULT_SEED given >>= λ seed.
     number_given option.Workers DEFAULT_WORKERS given >>= λ workers.
     number_given option.Turns budget given >>= λ turns.
-    Some (record { config = record { budget = budget; passes = passes; slots = slots }; seed = seed; workers = workers; turns = turns })
+    Some (record { config = record { budget = budget; passes = passes; slots = slots; format = One }; seed = seed; workers = workers; turns = turns })
 
 -- the numbers of a run with these options: each name is that of an option, and none is given twice
 unfoldable pub options_of : List GivenOption → Option RunOptions
@@ -107,9 +108,9 @@ unfoldable pub run_options : List (List ℕ) → Option RunOptions
 run_options [] = None
 run_options (command ∷ words) = if bytes_eq command (keyword_text keyword.Run) then option_and_then options_of (given_after None words) else None
 
--- the configuration of a run without options
+-- the configuration of a run without options, of a script with texts of format 1
 abbrev pub default_config : Config
-default_config = record { budget = DEFAULT_BUDGET; passes = DEFAULT_PASSES; slots = DEFAULT_SLOTS }
+default_config = record { budget = DEFAULT_BUDGET; passes = DEFAULT_PASSES; slots = DEFAULT_SLOTS; format = One }
 
 -- a run with these numbers has 1 to MAX_WORKER workers, and the most turns of each are 1 to MAX_BUDGET
 pub record HasWorkers (options : RunOptions) : Type 0 where

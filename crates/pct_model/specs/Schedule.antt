@@ -6,10 +6,13 @@ use Rattle.pct_model.specs.declared.schedule.Alt.{Alt}
 use Rattle.pct_model.specs.declared.schedule.Alt.TheVariants as alt
 use Rattle.pct_model.specs.declared.schedule.Config.{Config}
 use Rattle.pct_model.specs.declared.schedule.Entry.{Entry}
+use Rattle.pct_model.specs.declared.schedule.Format.{Format}
+use Rattle.pct_model.specs.declared.schedule.Format.TheVariants as format
 use Rattle.pct_model.specs.declared.refusal.ScheduleWhy.{ScheduleWhy}
 use Rattle.pct_model.specs.declared.refusal.ScheduleWhy.TheVariants as why
 use Rattle.pct_model.specs.declared.keyword.Keyword.TheVariants as keyword
 use Rattle.pct_model.specs.declared.limits.TheConstants.{MAX_WORKER}
+use Rattle.pct_model.specs.Formats.{has_choice}
 use Rattle.pct_model.specs.Keywords.{keyword_text}
 use Rattle.pct_model.specs.Lines.{lines_of, strip_cr, words_of, number_of}
 use Rattle.pct_model.specs.Run.{is_config}
@@ -28,19 +31,35 @@ begins first line = starts_with nat_eq line (first ++ 32 ∷ [])
 
 -- ---- lines
 
--- the configuration with these numbers, if all are present and within the limits
-abbrev pub config_of : Option ℕ → Option ℕ → Option ℕ → Option Config
-config_of (Some budget) (Some passes) (Some slots) = if is_config (record { budget = budget; passes = passes; slots = slots }) then Some (record { budget = budget; passes = passes; slots = slots }) else None
-config_of _ _ _ = None
+-- the format with this number
+abbrev pub format_with : List ℕ → Option Format
+format_with word = if bytes_eq word (codes "1") then Some format.One else if bytes_eq word (codes "2") then Some format.Two else None
 
--- `schedule 1 BUDGET PASSES SLOTS`
+-- the configuration, if it is within the limits
+abbrev pub if_config : Config → Option Config
+if_config config = if is_config config then Some config else None
+
+-- the configuration with this format and these numbers, if all are present and within the limits
+abbrev pub config_of : Option Format → Option ℕ → Option ℕ → Option ℕ → Option Config
+config_of (Some format) (Some budget) (Some passes) (Some slots) = if_config (record { budget = budget; passes = passes; slots = slots; format = format })
+config_of _ _ _ _ = None
+
+-- `schedule FORMAT BUDGET PASSES SLOTS`
 abbrev pub header_of_words : List (List ℕ) → Option Config
-header_of_words (title ∷ format ∷ budget ∷ passes ∷ slots ∷ []) = if bytes_eq title (keyword_text keyword.Schedule) && bytes_eq format (codes "1") then config_of (number_of budget) (number_of passes) (number_of slots) else None
+header_of_words (title ∷ format ∷ budget ∷ passes ∷ slots ∷ []) =
+    if bytes_eq title (keyword_text keyword.Schedule) then config_of (format_with format) (number_of budget) (number_of passes) (number_of slots) else None
 header_of_words _ = None
 
 -- the configuration in a header
 unfoldable pub header_of : List ℕ → Option Config
 header_of line = header_of_words (words_of line)
+
+-- a choice without a number, by its word
+abbrev pub plain_choice : List ℕ → Option Alt
+plain_choice kind =
+    if bytes_eq kind (keyword_text keyword.Go) then Some alt.Go
+    else if bytes_eq kind (keyword_text keyword.Expire) then Some alt.Expire
+    else None
 
 -- a choice with a number, by its word
 abbrev pub numbered_choice : List ℕ → ℕ → Option Alt
@@ -51,9 +70,9 @@ numbered_choice kind n =
     else if bytes_eq kind (keyword_text keyword.Dtor) then Some (alt.Dtor n)
     else None
 
--- a choice: `go`, `act N`, `new N`, `pick N` or `dtor N`
+-- a choice: `go`, `expire`, `act N`, `new N`, `pick N` or `dtor N`
 abbrev pub choice_of : List (List ℕ) → Option Alt
-choice_of (kind ∷ []) = if bytes_eq kind (keyword_text keyword.Go) then Some alt.Go else None
+choice_of (kind ∷ []) = plain_choice kind
 choice_of (kind ∷ number ∷ []) = option_and_then (numbered_choice kind) (number_of number)
 choice_of _ = None
 
@@ -70,6 +89,14 @@ entry_of_words _ = None
 -- the entry in a line
 unfoldable pub entry_of : List ℕ → Option Entry
 entry_of line = entry_of_words (words_of line)
+
+-- the entry, if a schedule of this format may have it
+abbrev pub if_known : Format → Entry → Option Entry
+if_known format e = if has_choice format e.alt then Some e else None
+
+-- the entry in a line of a schedule of this format
+abbrev pub entry_in : Format → List ℕ → Option Entry
+entry_in format line = option_and_then (if_known format) (entry_of line)
 
 -- the number is present and equal to n
 abbrev pub is_number : ℕ → Option ℕ → Bool
@@ -109,13 +136,14 @@ prepend_entry (Err fault) entries = Err fault
 prepend_entry (Ok e) (Err fault) = Err fault
 prepend_entry (Ok e) (Ok entries) = Ok (e ∷ entries)
 
--- the entries of the lines from line n on: each line before the first that begins with `end ` is an entry
-unfoldable pub entries_from : (n budget k : ℕ) → List (List ℕ) → Read (List Entry)
-entries_from n budget k [] = Err (n, why.BadEnd)
-entries_from n budget k (line ∷ lines) =
+-- the entries of the lines from line n on, in a schedule with this configuration: each line before the first that begins with `end ` is an
+-- entry
+unfoldable pub entries_from : (n : ℕ) → Config → (k : ℕ) → List (List ℕ) → Read (List Entry)
+entries_from n config k [] = Err (n, why.BadEnd)
+entries_from n config k (line ∷ lines) =
     if begins (keyword_text keyword.End) line
     then read_end n k line lines
-    else prepend_entry (read_entry n budget k (entry_of line)) (entries_from (n + 1) budget (k + 1) lines)
+    else prepend_entry (read_entry n config.budget k (entry_in config.format line)) (entries_from (n + 1) config (k + 1) lines)
 
 -- a configuration and the entries after it
 abbrev pub with_config : Config → Read (List Entry) → Schedule
@@ -125,7 +153,7 @@ with_config config (Err fault) = Err fault
 -- the schedule with line n as its header, and the lines after it
 abbrev pub schedule_at : ℕ → Option Config → List (List ℕ) → Schedule
 schedule_at n None lines = Err (n, why.BadHeader)
-schedule_at n (Some config) lines = with_config config (entries_from (n + 1) config.budget 0 lines)
+schedule_at n (Some config) lines = with_config config (entries_from (n + 1) config 0 lines)
 
 -- the schedule in the lines from line n on: its header is the first line that begins with `schedule `; without one,
 -- line 1 is refused

@@ -126,6 +126,11 @@ module _ (body : List Stmt) (shared : SharedState) (t : Thread) (environment : E
   abbrev pub value : Frame → Operand → ℕ
   value frame operand = value_of shared.globals frame operand
 
+  -- XSH pthread_cond_wait: undefined if the caller does not own the mutex, or if a thread is blocked on the condition variable with another
+  -- mutex; one that was unblocked and has not returned yet counts no longer. The order of the tests is a choice of this host
+  abbrev pub stops_of_wait : ℕ → ℕ → List StopTest
+  stops_of_wait c m = (not (owns t.id m shared), why.NotOwner) ∷ (waits_with_another_mutex c m environment, why.CondTwoMutexes) ∷ []
+
   -- the own stops of each statement, in the order in which they are tested. `others` is the threads of the process as this thread sees
   -- them, itself included: its own id names it, so a self-detach and a self-cancel are no stops of their own
   unfoldable pub stops_of : Frame → Stmt → List StopTest
@@ -170,9 +175,9 @@ module _ (body : List Stmt) (shared : SharedState) (t : Thread) (environment : E
   stops_of frame (statement.GetSpecific d key) = (is_none (key_with (value frame key) shared.keys), why.KeyId) ∷ []
   -- XSH pthread_mutex_lock: undefined for a mutex of this type, if the caller does not own it
   stops_of frame (statement.Unlock m) = (not (owns t.id m shared), why.NotOwner) ∷ []
-  -- XSH pthread_cond_wait: undefined if the caller does not own the mutex, or if a thread is blocked on the condition variable with another
-  -- mutex; one that was unblocked and has not returned yet counts no longer. The order of the tests is a choice of this host
-  stops_of frame (statement.CondWait c m) = (not (owns t.id m shared), why.NotOwner) ∷ (waits_with_another_mutex c m environment, why.CondTwoMutexes) ∷ []
+  -- XSH pthread_cond_wait, pthread_cond_timedwait
+  stops_of frame (statement.CondWait c m) = stops_of_wait c m
+  stops_of frame (statement.CondTimedWait result c m) = stops_of_wait c m
   -- a limit of this host
   stops_of frame (statement.Fork result child) = (has_begun_to_end t.reason, why.ForkInEnding) ∷ []
   -- XSH exit: undefined if it is called more than once

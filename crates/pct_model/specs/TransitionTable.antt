@@ -25,8 +25,8 @@ use Rattle.pct_model.specs.CancelCalls.{requests, sets_state, sets_mode, tests_c
 use Rattle.pct_model.specs.Keys.{key_place, value_at}
 use Rattle.pct_model.specs.KeyCalls.{creates_key_by, deletes_key, sets_specific, gets_specific}
 use Rattle.pct_model.specs.MutexCalls.{locks, unlocks}
-use Rattle.pct_model.specs.CondCalls.{begins_wait, reacquires, signals_by, broadcasts}
-use Rattle.pct_model.specs.SemCalls.{begins_sem_wait, ends_sem_wait, posts}
+use Rattle.pct_model.specs.CondCalls.{cond_wait_point, cond_timedwait_point, begins_wait, expires, reacquires, signals_by, broadcasts}
+use Rattle.pct_model.specs.SemCalls.{sem_wait_point, sem_timedwait_point, begins_sem_wait, ends_sem_wait, posts}
 use Rattle.pct_model.specs.ForkCalls.{registers_fork, begins_fork, next_handler, goes_on_forking, begins_waitpid, waits_at}
 use Rattle.pct_model.specs.ThreadCalls.{creates_by, begins_join, joins_at, detaches, gets_self}
 use Rattle.pct_model.specs.ThreadEnds.{ends_by_exit, goes_on_ending}
@@ -84,13 +84,15 @@ module _ (passes : ℕ) (body : List Stmt) (shared : SharedState) (t : Thread) (
   runs frame (statement.KeyDelete key) = deletes_key (suc frame.pc) (value frame key)
   runs frame (statement.SetSpecific key v) = sets_specific (suc frame.pc) (value frame key) (value frame v)
   runs frame (statement.GetSpecific d key) = gets_specific (suc frame.pc) d (value_at (key_place (value frame key)) t.specific)
-  -- XSH pthread_mutex_lock, pthread_cond_wait, pthread_cond_signal, sem_wait, sem_post
+  -- XSH pthread_mutex_lock, pthread_cond_wait, pthread_cond_timedwait, pthread_cond_signal, sem_wait, sem_timedwait, sem_post
   runs frame (statement.Lock m) = locks (suc frame.pc) m t.id
   runs frame (statement.Unlock m) = unlocks (suc frame.pc) m
-  runs frame (statement.CondWait c m) = begins_wait c m
+  runs frame (statement.CondWait c m) = begins_wait cond_wait_point c m
+  runs frame (statement.CondTimedWait result c m) = begins_wait cond_timedwait_point c m
   runs frame (statement.Signal c) = signals_by choice (suc frame.pc) c
   runs frame (statement.Broadcast c) = broadcasts (suc frame.pc) c (length (environment.waiters c))
-  runs frame (statement.SemWait s) = begins_sem_wait s
+  runs frame (statement.SemWait s) = begins_sem_wait sem_wait_point s
+  runs frame (statement.SemTimedWait result s) = begins_sem_wait sem_timedwait_point s
   runs frame (statement.SemPost s) = posts (suc frame.pc) s (slice_index shared.counts s)
   -- XSH pthread_atfork, fork, waitpid
   runs frame (statement.AtFork result prepare parent child) = registers_fork (length shared.fork_handlers) (suc frame.pc) result (record { prepare = prepare; parent = parent; child = child })
@@ -111,10 +113,12 @@ module _ (passes : ℕ) (body : List Stmt) (shared : SharedState) (t : Thread) (
   transition_at next (status.AtPoint index) = passes_point index next
   -- XSH pthread_join: the target has terminated
   transition_at next (status.Joining id) = joins_at (exit_value_with id environment) id next
-  -- XSH sem_wait: the count is above 0
-  transition_at next (status.InSem s) = ends_sem_wait s (slice_index shared.counts s) next
+  -- XSH sem_wait, sem_timedwait: the count is above 0, or the time expires
+  transition_at next (status.InSem s) = ends_sem_wait choice s (slice_index shared.counts s) next
   -- XSH waitpid: the child has ended, or there is no such child any more
   transition_at next (status.InWaitPid pid) = waits_at (environment.family.child pid) pid next
+  -- XSH pthread_cond_timedwait: the time expires
+  transition_at next (status.Waiting c m) = expires c m
   -- XSH pthread_cond_wait: the mutex has no owner
   transition_at next (status.Reacquire c m why) = reacquires t.id c m why next
   -- XSH 2.9.5.3, pthread_exit, pthread_key_create: cleanup handlers, then destructors, then the end
@@ -133,4 +137,4 @@ acts_or _ s goes = goes
 
 -- what a thread of a process does by a choice, in a state
 abbrev pub transition_by : Script → Config → World → Process → Thread → Alt → Transition
-transition_by script config w p t choice = acts_or choice t.status (transition_at config.passes (body_at script t.frames) p.shared t (environment_of config.slots w p t.id) choice (next_of script t.frames) t.status)
+transition_by script config w p t choice = acts_or choice t.status (transition_at config.passes (body_at script t.frames) p.shared t (environment_of config w p t.id) choice (next_of script t.frames) t.status)

@@ -91,9 +91,15 @@ impl LineKind {
                 ArgumentKind::Item(SymbolKind::Cond),
                 ArgumentKind::Item(SymbolKind::Mutex),
             ],
+            LineKind::CondTimedWait => &[
+                ArgumentKind::Dest,
+                ArgumentKind::Item(SymbolKind::Cond),
+                ArgumentKind::Item(SymbolKind::Mutex),
+            ],
             LineKind::Signal => &[ArgumentKind::Item(SymbolKind::Cond)],
             LineKind::Broadcast => &[ArgumentKind::Item(SymbolKind::Cond)],
             LineKind::SemWait => &[ArgumentKind::Item(SymbolKind::Sem)],
+            LineKind::SemTimedWait => &[ArgumentKind::Dest, ArgumentKind::Item(SymbolKind::Sem)],
             LineKind::SemPost => &[ArgumentKind::Item(SymbolKind::Sem)],
             LineKind::AtFork => &[
                 ArgumentKind::Dest,

@@ -11,6 +11,8 @@ pub enum Caller {
     Fork,
     WaitPid,
     AtExit,
+    CondTimedWait,
+    SemTimedWait,
 }
 
 /// What happened. Functions, mutexes, condition variables and semaphores are given by their indexes in the script, and
@@ -44,6 +46,7 @@ pub enum What {
     Signalled(u32, u32),
     BroadcastTo(u32, u32),
     WaitCanceled(u32),
+    WaitExpired(u32),
     HandedOn(u32, u32),
     Taken(u32),
     Posted(u32),

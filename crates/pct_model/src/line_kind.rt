@@ -91,12 +91,16 @@ pub enum LineKind {
     Unlock,
     /// pthread_cond_wait
     CondWait,
+    /// pthread_cond_timedwait
+    CondTimedWait,
     /// pthread_cond_signal
     Signal,
     /// pthread_cond_broadcast
     Broadcast,
     /// sem_wait
     SemWait,
+    /// sem_timedwait
+    SemTimedWait,
     /// sem_post
     SemPost,
     /// pthread_atfork
@@ -117,7 +121,7 @@ pub enum LineKind {
 }
 
 /// The line kinds with a keyword of their own, in the order of `line_kinds`: all but the cancellation points.
-pub static LINE_KINDS: [LineKind; 43] = [
+pub static LINE_KINDS: [LineKind; 45] = [
     LineKind::Declares(SymbolKind::Global),
     LineKind::Declares(SymbolKind::Mutex),
     LineKind::Declares(SymbolKind::Cond),
@@ -151,9 +155,11 @@ pub static LINE_KINDS: [LineKind; 43] = [
     LineKind::Lock,
     LineKind::Unlock,
     LineKind::CondWait,
+    LineKind::CondTimedWait,
     LineKind::Signal,
     LineKind::Broadcast,
     LineKind::SemWait,
+    LineKind::SemTimedWait,
     LineKind::SemPost,
     LineKind::AtFork,
     LineKind::Fork,

@@ -3,12 +3,16 @@
 ghost use Rattle.std.specs.Prelude.{◌≡◌};
 ghost use Rattle.pct_model.specs.Points.{kind_text, wait_text};
 
+/// The index of pthread_cond_timedwait in the table of cancellation points.
+pub const COND_TIMEDWAIT_POINT: u32 = 20;
 /// The index of pthread_cond_wait in the table of cancellation points.
 pub const COND_WAIT_POINT: u32 = 21;
 /// The index of pthread_join in the table of cancellation points.
 pub const JOIN_POINT: u32 = 22;
 /// The index of pthread_testcancel in the table of cancellation points.
 pub const TESTCANCEL_POINT: u32 = 23;
+/// The index of sem_timedwait in the table of cancellation points.
+pub const SEM_TIMEDWAIT_POINT: u32 = 31;
 /// The index of sem_wait in the table of cancellation points.
 pub const SEM_WAIT_POINT: u32 = 32;
 /// The index of close in the table of cancellation points.

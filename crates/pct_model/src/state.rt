@@ -28,6 +28,8 @@ pub enum Cause {
     Signalled,
     Broadcast,
     Canceled,
+    /// The time of pthread_cond_timedwait expired.
+    TimedOut,
 }
 
 /// Why a thread began to end; `None` for a thread that did not.
@@ -46,13 +48,13 @@ pub enum Status {
     AtPoint(u32),
     /// Suspended in pthread_join, for the thread with this id.
     Joining(u32),
-    /// Suspended in sem_wait, for the semaphore with this index.
+    /// Suspended in sem_wait or sem_timedwait, for the semaphore with this index.
     InSem(u32),
     /// Suspended in waitpid, for the process with this id.
     InWaitPid(u32),
-    /// Suspended in pthread_cond_wait, with the indexes of the condition variable and the mutex.
+    /// Suspended in pthread_cond_wait or pthread_cond_timedwait, with the indexes of the condition variable and the mutex.
     Waiting(u32, u32),
-    /// Suspended in pthread_cond_wait until it owns the mutex again.
+    /// The same, until it owns the mutex again.
     Reacquire(u32, u32, Cause),
     Ending,
     /// In fork.

@@ -1,5 +1,8 @@
 //! The statements of a script: those of the script language, and calls of POSIX functions.
 
+ghost use Rattle.std.specs.Prelude.{◌≡◌};
+ghost use Rattle.pct_model.specs.Formats.{is_timed};
+
 /// An operand: a value that a statement reads.
 #[derive(Clone, Copy)]
 pub enum Operand {
@@ -92,12 +95,23 @@ pub enum Stmt {
         cond: u32,
         mutex: u32,
     },
+    /// pthread_cond_timedwait
+    CondTimedWait {
+        result: Dest,
+        cond: u32,
+        mutex: u32,
+    },
     /// pthread_cond_signal
     Signal(u32),
     /// pthread_cond_broadcast
     Broadcast(u32),
     /// sem_wait
     SemWait(u32),
+    /// sem_timedwait
+    SemTimedWait {
+        result: Dest,
+        sem: u32,
+    },
     /// sem_post
     SemPost(u32),
     /// pthread_atfork
@@ -129,4 +143,16 @@ pub enum Stmt {
     ProcExitNow(Operand),
     /// A generic cancellation point.
     PointCall(u32),
+}
+
+impl Stmt {
+    /// Whether it is a wait with a time (XSH pthread_cond_timedwait, sem_timedwait).
+    pub fn is_timed(&self) -> bool
+        ensures { result ≡ is_timed self.now }
+    {
+        match self {
+            Stmt::CondTimedWait { .. } | Stmt::SemTimedWait { .. } => true,
+            _ => false,
+        }
+    }
 }

@@ -91,7 +91,7 @@ pub use Rattle.pct_model.specs.declared.line_kind.ArgumentKind.{ArgumentKind}
 pub use Rattle.pct_model.specs.declared.line_kind.LineKind.{LineKind}
 pub use Rattle.pct_model.specs.declared.line_kind.SymbolKind.{SymbolKind}
 pub use Rattle.pct_model.specs.declared.name.Name.{Name}
-pub use Rattle.pct_model.specs.declared.numbers.TheConstants.{EAGAIN, ECHILD, ENOMEM}
+pub use Rattle.pct_model.specs.declared.numbers.TheConstants.{EAGAIN, ECHILD, ENOMEM, ETIMEDOUT}
 pub use Rattle.pct_model.specs.declared.parsed_line.Argument.{Argument}
 pub use Rattle.pct_model.specs.declared.parsed_line.ParsedLine.{ParsedLine}
 pub use Rattle.pct_model.specs.declared.parsed_line.Token.{Token}
@@ -118,6 +118,7 @@ pub use Rattle.pct_model.specs.declared.schedule.Alt.{Alt}
 pub use Rattle.pct_model.specs.declared.schedule.Alt.TheVariants.{Go}
 pub use Rattle.pct_model.specs.declared.schedule.Config.{Config}
 pub use Rattle.pct_model.specs.declared.schedule.Entry.{Entry}
+pub use Rattle.pct_model.specs.declared.schedule.Format.{Format}
 pub use Rattle.pct_model.specs.declared.script.Func.{Func}
 pub use Rattle.pct_model.specs.declared.script.Script.{Script}
 pub use Rattle.pct_model.specs.declared.script.SemDecl.{SemDecl}
@@ -164,21 +165,23 @@ pub use Rattle.pct_model.specs.Checks.{is_in_push, is_plain, is_plain_section, i
 unfoldable pub use Rattle.pct_model.specs.Checks.{checks, declares_again, exceeds_limit, first_fault, first_wrong, is_plain_function}
 unfoldable pub use Rattle.pct_model.specs.Checks.{name_twice, names_other, no_main, none_wrong, not_plain, plain_names, return_in_push}
 unfoldable pub use Rattle.pct_model.specs.Checks.{too_many, unknown_name, uses_unknown}
-pub use Rattle.pct_model.specs.ChoiceTable.{ChoiceRow, act_if, choices_of, dtor_or_go, first_row, go_if, hand_on_or_act, is_create}
-pub use Rattle.pct_model.specs.ChoiceTable.{is_enabled, is_key_create, is_signal, new_or_go, offers, pick_or_go, same_choice}
-pub use Rattle.pct_model.specs.ChoiceTable.{unblocked_acts, waiters_to_signal}
+pub use Rattle.pct_model.specs.ChoiceTable.{ChoiceRow, act_if, can_expire, choices_of, dtor_or_go, expire_if, first_row, go_if}
+pub use Rattle.pct_model.specs.ChoiceTable.{hand_on_or_act, is_create, is_enabled, is_key_create, is_signal, is_timed_wait, new_or_go}
+pub use Rattle.pct_model.specs.ChoiceTable.{offers, pick_or_go, same_choice, unblocked_acts, waiters_to_signal}
 unfoldable pub use Rattle.pct_model.specs.ChoiceTable.{choices_at, ending_choices, running_choices, running_rows}
 pub use Rattle.pct_model.specs.Chosen.{Candidate, candidate, entry_for, item_at, ready_of}
 unfoldable pub use Rattle.pct_model.specs.Chosen.{candidates, chosen}
 unfoldable pub use Rattle.pct_model.specs.CleanupHandlers.{pops, pushes}
-pub use Rattle.pct_model.specs.CondCalls.{cond_wait_point, is_waiting_on, unblocked}
-unfoldable pub use Rattle.pct_model.specs.CondCalls.{begins_wait, broadcasts, hands_on, leaves_wait, reacquires, signals_by}
+pub use Rattle.pct_model.specs.CondCalls.{cond_timedwait_point, cond_wait_point, is_waiting_on, unblocked}
+unfoldable pub use Rattle.pct_model.specs.CondCalls.{begins_wait, broadcasts, expires, hands_on, leaves_wait, reacquires, signals_by}
 pub use Rattle.pct_model.specs.Contents.{Contents, item, names_of_kind, variable}
 unfoldable pub use Rattle.pct_model.specs.Contents.{resolve, resolve_all, resolve_name}
 pub use Rattle.pct_model.specs.Demo.{IsCountedRun, emitted, summary_of}
 unfoldable pub use Rattle.pct_model.specs.Demo.{demo_number, summary_lines, total_of}
 pub use Rattle.pct_model.specs.EventTexts.{caller_name, either, func_name, line_kind_of_caller}
 unfoldable pub use Rattle.pct_model.specs.EventTexts.{event_words}
+pub use Rattle.pct_model.specs.Formats.{config_for, format_number, has_choice, has_timeouts, is_timed}
+unfoldable pub use Rattle.pct_model.specs.Formats.{format_of}
 pub use Rattle.pct_model.specs.ForkCalls.{begins_waitpid, goes_on_after_handlers, goes_on_forking, handler_at, handler_event, handler_for}
 pub use Rattle.pct_model.specs.ForkCalls.{handlers_among, indexes_left, reaps_if, waitpid_point, waits_at, while_called}
 unfoldable pub use Rattle.pct_model.specs.ForkCalls.{begins_fork, calls_handler, finds_no_child, forks_by, leaves_handler, next_handler}
@@ -230,7 +233,8 @@ unfoldable pub use Rattle.pct_model.specs.Run.{illegal_in, run, run_from, run_st
 pub use Rattle.pct_model.specs.RunOptions.{GivenOption, HasWorkers, all_options, default_config, greatest_value, is_named, least_value}
 pub use Rattle.pct_model.specs.RunOptions.{number_by, number_given, numbers_given, option_name, values_given}
 unfoldable pub use Rattle.pct_model.specs.RunOptions.{given_after, options_of, run_options}
-pub use Rattle.pct_model.specs.Schedule.{Read, Schedule, choice_of, config_of, entry_of_parts, entry_of_words, header_of_words}
+pub use Rattle.pct_model.specs.Schedule.{Read, Schedule, choice_of, config_of, entry_in, entry_of_parts, entry_of_words, format_with}
+pub use Rattle.pct_model.specs.Schedule.{header_of_words, if_config, if_known, plain_choice}
 pub use Rattle.pct_model.specs.Schedule.{is_end_of_words, is_marker, is_number, nothing_after, numbered_choice, prepend_entry, read_end}
 pub use Rattle.pct_model.specs.Schedule.{read_entry, schedule_at, split_at_marker, with_config}
 unfoldable pub use Rattle.pct_model.specs.Schedule.{entries_from, entry_of, header_of, marker_in, replay_parts, sched_of, schedule_from}
@@ -240,7 +244,7 @@ pub use Rattle.pct_model.specs.Sections.{Line, Section, Sections, are_in_functio
 pub use Rattle.pct_model.specs.Sections.{declaring, functions_in, is_declaration, is_function, is_same, is_statement, locals_of}
 pub use Rattle.pct_model.specs.Sections.{names_declared, names_in, parsed_numbered, prepend_line, role_in, sections_of}
 unfoldable pub use Rattle.pct_model.specs.Sections.{parsed_lines, split_sections}
-pub use Rattle.pct_model.specs.SemCalls.{sem_wait_point}
+pub use Rattle.pct_model.specs.SemCalls.{sem_timedwait_point, sem_wait_point}
 unfoldable pub use Rattle.pct_model.specs.SemCalls.{begins_sem_wait, ends_sem_wait, posts}
 pub use Rattle.pct_model.specs.Spelling.{Fault, first_of}
 unfoldable pub use Rattle.pct_model.specs.Spelling.{fault_at, fault_of_words, faulty_word, misspelled, spelling, why_not}

@@ -8,6 +8,7 @@ use Rattle.pct_names.proofs.Names.{values_given, ℕ, ◌∷◌, ◌≡◌, ◌�
 use Rattle.std.proofs.Common.{leb-true, le-leb}
 use Rattle.pct_model.specs.declared.keyword.Keyword.TheVariants as keyword
 use Rattle.pct_model.specs.declared.run_options.RunOption.TheVariants as option
+use Rattle.pct_model.specs.declared.schedule.Format.TheVariants.{One}
 use Rattle.pct_model.specs.RunOptions.{is_value}
 
 -- a value comes only from the branch that has one
@@ -46,13 +47,13 @@ record AreWithin (options : RunOptions) : Type 0 where
   config : is_config options.config ≡ true
   workers : HasWorkers options
 
-config_within : (budget passes slots : ℕ) → IsWithin option.Budget budget → IsWithin option.Passes passes → IsWithin option.Slots slots → is_config (record { budget = budget; passes = passes; slots = slots }) ≡ true
+config_within : (budget passes slots : ℕ) → IsWithin option.Budget budget → IsWithin option.Passes passes → IsWithin option.Slots slots → is_config (record { budget = budget; passes = passes; slots = slots; format = One }) ≡ true
 config_within budget passes slots b p s =
     rw (le-leb 1 budget b.least, le-leb budget 200000 b.greatest, le-leb 4 passes p.least, le-leb passes 16 p.greatest, le-leb 1 slots s.least, le-leb slots 64 s.greatest) refl
 
 -- numbers that are each within the range of its option
 each_within : (budget passes slots seed workers turns : ℕ) → IsWithin option.Budget budget → IsWithin option.Passes passes → IsWithin option.Slots slots → IsWithin option.Workers workers → IsWithin option.Turns turns
-    → AreWithin (record { config = record { budget = budget; passes = passes; slots = slots }; seed = seed; workers = workers; turns = turns })
+    → AreWithin (record { config = record { budget = budget; passes = passes; slots = slots; format = One }; seed = seed; workers = workers; turns = turns })
 each_within budget passes slots seed workers turns b p s w t = record {
   config = config_within budget passes slots b p s;
   workers = record { some_workers = w.least; few_workers = w.greatest; some_turns = t.least; few_turns = t.greatest };

@@ -5,6 +5,7 @@ use Rattle.pct_names.proofs.Names.{list_all, list_any, None, none-some, number_b
 use Rattle.pct_names.proofs.Names.{options_of, refl, RunOption, RunOptions, same_Some, Some, sym, true, unwrap_or, values_given, ◌||◌, ℕ}
 use Rattle.pct_names.proofs.Names.{◌∙◌, ◌∷◌, ◌≡◌}
 use Rattle.pct_model.specs.declared.run_options.RunOption.TheVariants as option
+use Rattle.pct_model.specs.declared.schedule.Format.TheVariants.{One}
 use Rattle.pct_model.specs.RunOptions.{is_value}
 use Rattle.pct_model.proofs.Bytes.{same_bytes}
 use Rattle.pct_options.specs.declared.given_values.GivenValues.{GivenValues}
@@ -28,7 +29,7 @@ number_with (Some n) o default texts = alone n texts
 abbrev numbers_of : Option ℕ → Option ℕ → Option ℕ → Option ℕ → Option ℕ → (ℕ → Option ℕ) → Option RunOptions
 numbers_of budget passes slots seed workers turns =
     budget >>= λ b. passes >>= λ p. slots >>= λ s. seed >>= λ d. workers >>= λ w. turns b >>= λ t.
-    Some (record { config = record { budget = b; passes = p; slots = s }; seed = d; workers = w; turns = t })
+    Some (record { config = record { budget = b; passes = p; slots = s; format = One }; seed = d; workers = w; turns = t })
 
 -- each name is that of an option
 abbrev are_named : List GivenOption → Bool

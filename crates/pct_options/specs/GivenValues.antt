@@ -1,6 +1,7 @@
 -- The values that options were given, one option after the other. No public clause cites this file.
 use Rattle.std.specs.Prelude.{ℕ, if◌then◌else◌, Option, Some, None, find, is_some, option_and_then, unwrap_or}
 use Rattle.pct_model.specs.declared.limits.TheConstants.{DEFAULT_BUDGET, DEFAULT_PASSES, DEFAULT_SLOTS, DEFAULT_SEED, DEFAULT_WORKERS}
+use Rattle.pct_model.specs.declared.schedule.Format.TheVariants.{One}
 use Rattle.pct_model.specs.declared.run_options.RunOption.{RunOption}
 use Rattle.pct_model.specs.declared.run_options.RunOption.TheVariants as option
 use Rattle.pct_model.specs.declared.run_options.RunOptions.{RunOptions}
@@ -32,6 +33,7 @@ numbers_with given = record {
     budget = unwrap_or given.budget DEFAULT_BUDGET;
     passes = unwrap_or given.passes DEFAULT_PASSES;
     slots = unwrap_or given.slots DEFAULT_SLOTS;
+    format = One;
   };
   seed = unwrap_or given.seed DEFAULT_SEED;
   workers = unwrap_or given.workers DEFAULT_WORKERS;

@@ -5,7 +5,7 @@ ghost use Rattle.pct_model.specs.RunOptions.{greatest_value};
 ghost use Rattle.pct_options.specs.GivenValues.{none_given, numbers_with, with_value};
 
 use pct_model::{
-    Config, DEFAULT_BUDGET, DEFAULT_PASSES, DEFAULT_SEED, DEFAULT_SLOTS, DEFAULT_WORKERS,
+    Config, DEFAULT_BUDGET, DEFAULT_PASSES, DEFAULT_SEED, DEFAULT_SLOTS, DEFAULT_WORKERS, Format,
     RunOption, RunOptions,
 };
 
@@ -62,6 +62,7 @@ impl GivenValues {
                 budget,
                 passes: self.passes.unwrap_or(DEFAULT_PASSES),
                 slots: self.slots.unwrap_or(DEFAULT_SLOTS),
+                format: Format::One,
             },
             seed: self.seed.unwrap_or(DEFAULT_SEED),
             workers: self.workers.unwrap_or(DEFAULT_WORKERS),

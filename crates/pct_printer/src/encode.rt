@@ -143,9 +143,21 @@ pub(crate) fn encode(statement: Stmt) -> EncodedStmt
                 &[Argument::Item(cond), Argument::Item(mutex)],
             )
         }
+        Stmt::CondTimedWait {
+            result,
+            cond,
+            mutex,
+        } => with(
+            LineKind::CondTimedWait,
+            &[dest(result), Argument::Item(cond), Argument::Item(mutex)],
+        ),
         Stmt::Signal(c) => with(LineKind::Signal, &[Argument::Item(c)]),
         Stmt::Broadcast(c) => with(LineKind::Broadcast, &[Argument::Item(c)]),
         Stmt::SemWait(s) => with(LineKind::SemWait, &[Argument::Item(s)]),
+        Stmt::SemTimedWait { result, sem } => with(
+            LineKind::SemTimedWait,
+            &[dest(result), Argument::Item(sem)],
+        ),
         Stmt::SemPost(s) => with(LineKind::SemPost, &[Argument::Item(s)]),
         Stmt::AtFork {
             result,

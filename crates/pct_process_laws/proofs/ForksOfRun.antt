@@ -249,7 +249,7 @@ module _ (script : Script) (config : Config) where
     created = λ w p t k choice new registered offered fits is. inl (one_frame (new_frame new.func new.arg kind.Start) refl None refl);
     named = λ a t k fits. subst (ForkFits script) (sym (named_keeps (view script) (λ t j p d k s is. ap (λ (runs : Bool). (runs, t.frames, t.kept)) (same_settled is_running (λ c m why. refl) s t.status is)) a t)) fits;
     kept = λ w p t k choice registered offered fits.
-        let environment : Environment = environment_of config.slots w p t.id in
+        let environment : Environment = environment_of config w p t.id in
         case_fits script config.passes p.shared registered t environment t.status t.frames (is_placed script t.frames) (case_of config.passes (body_at script t.frames) p.shared t environment true choice (next_of script t.frames) t.status (λ known. offered)) fits;
     replica = λ w p t k at registered forks fits. inl (child_fits t (ap is_running forks) t.frames fits);
   }

@@ -62,6 +62,7 @@ pub fn fields_of_event(script: &Script, what: What) -> Fields<'_>
         What::Signalled(c, id) => Two(Keyword::Signal, cond(script, c), Number(id)),
         What::BroadcastTo(c, count) => Two(Keyword::Broadcast, cond(script, c), Number(count)),
         What::WaitCanceled(c) => One(Keyword::CancelWait, cond(script, c)),
+        What::WaitExpired(c) => One(Keyword::Expire, cond(script, c)),
         What::HandedOn(c, id) => Two(Keyword::HandOn, cond(script, c), Number(id)),
         What::Taken(s) => One(Keyword::Take, sem(script, s)),
         What::Posted(s) => One(Keyword::Post, sem(script, s)),

@@ -37,6 +37,8 @@ pub(crate) fn caller(call: Caller) -> Field<'static>
         Caller::Fork => keyword_of(LineKind::Fork),
         Caller::WaitPid => keyword_of(LineKind::WaitPid),
         Caller::AtExit => keyword_of(LineKind::AtExit),
+        Caller::CondTimedWait => keyword_of(LineKind::CondTimedWait),
+        Caller::SemTimedWait => keyword_of(LineKind::SemTimedWait),
     }
 }
 

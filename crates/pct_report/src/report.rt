@@ -64,25 +64,33 @@ fn write_parts<K: Sink>(
 ) -> Result<(), Failed>
     ensures { Writes K.written K.errors K.inners sink.old sink.new (text_of (report_lines script.now config events.now verdict entries.now)) result }
 {
-    write_run(sink, script, events)?;
+    write_run(sink, script, config, events)?;
     write_end(sink, config, verdict, entries)
 }
 
 // The title and the events.
-fn write_run<K: Sink>(sink: &mut K, script: &Script, events: &[Event]) -> Result<(), Failed>
-    ensures { Writes K.written K.errors K.inners sink.old sink.new (line_text title_line ++ flat_map (λ e. line_text (event_line script.now e)) events.now) result }
+fn write_run<K: Sink>(
+    sink: &mut K,
+    script: &Script,
+    config: Config,
+    events: &[Event],
+) -> Result<(), Failed>
+    ensures { Writes K.written K.errors K.inners sink.old sink.new (line_text (title_line config) ++ flat_map (λ e. line_text (event_line script.now e)) events.now) result }
 {
-    write_title(sink)?;
+    write_title(sink, config)?;
     write_events(sink, script, events)
 }
 
 #[tactic(auto, unfolding(pct_model::specs::Report::title_line))]
-fn write_title<K: Sink>(sink: &mut K) -> Result<(), Failed>
-    ensures { Writes K.written K.errors K.inners sink.old sink.new (line_text title_line) result }
+fn write_title<K: Sink>(sink: &mut K, config: Config) -> Result<(), Failed>
+    ensures { Writes K.written K.errors K.inners sink.old sink.new (line_text (title_line config)) result }
 {
     write_line(
         sink,
-        &[Field::Text(Keyword::Report.text()), Field::Number(1)],
+        &[
+            Field::Text(Keyword::Report.text()),
+            Field::Number(config.format.number()),
+        ],
     )
 }
 

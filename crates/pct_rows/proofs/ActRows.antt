@@ -231,7 +231,7 @@ no_other_step_enables_it law = absurd (false≢true (sym (ap is_enabled law.stat
 -- ---- cancellation points
 
 -- the statements that call a function that is a cancellation point, and others
-points : map (λ s. calls_cancellation_point (StatementIn (new_frame 0 0 kind.Main) s)) (statement.TestCancel ∷ statement.Join (operand.Num 2) (destination.Drop) ∷ statement.CondWait 0 0 ∷ statement.SemWait 0 ∷ statement.WaitPid destination.Drop (operand.Num 2) destination.Drop ∷ statement.PointCall 25 ∷ []) ≡ replicate 6 true
+points : map (λ s. calls_cancellation_point (StatementIn (new_frame 0 0 kind.Main) s)) (statement.TestCancel ∷ statement.Join (operand.Num 2) (destination.Drop) ∷ statement.CondWait 0 0 ∷ statement.CondTimedWait destination.Drop 0 0 ∷ statement.SemWait 0 ∷ statement.SemTimedWait destination.Drop 0 ∷ statement.WaitPid destination.Drop (operand.Num 2) destination.Drop ∷ statement.PointCall 25 ∷ []) ≡ replicate 8 true
 unfolding runs_on_literals
 points = refl
 
@@ -240,7 +240,7 @@ unfolding runs_on_literals
 no_points = refl
 
 -- the statuses of a thread that is suspended in such a call, whatever its next statement; and the others, without a statement
-at_a_point : map (is_at_cancellation_point NoStatement) (status.AtPoint 16 ∷ status.Joining 2 ∷ status.InSem 0 ∷ status.InWaitPid 2 ∷ status.Waiting 0 0 ∷ status.Reacquire 0 0 cause.Signalled ∷ status.Reacquire 0 0 cause.Broadcast ∷ status.Reacquire 0 0 cause.Canceled ∷ []) ≡ replicate 8 true
+at_a_point : map (is_at_cancellation_point NoStatement) (status.AtPoint 16 ∷ status.Joining 2 ∷ status.InSem 0 ∷ status.InWaitPid 2 ∷ status.Waiting 0 0 ∷ status.Reacquire 0 0 cause.Signalled ∷ status.Reacquire 0 0 cause.Broadcast ∷ status.Reacquire 0 0 cause.TimedOut ∷ status.Reacquire 0 0 cause.Canceled ∷ []) ≡ replicate 9 true
 at_a_point = refl
 
 at_none : map (is_at_cancellation_point NoStatement) (status.Running ∷ status.Ending ∷ status.Forking (record { phase = Prepare; next = 0; length = 0; answer = 0 }) ∷ status.Exiting ∷ status.Ended 5 ∷ []) ≡ replicate 5 false
@@ -285,16 +285,16 @@ awakened t events first kept pid p is_process tid u is_thread here suspended act
 
 -- the statuses of threads that are suspended in a cancellation point
 abbrev suspended_ones : List Status
-suspended_ones = status.AtPoint 16 ∷ status.AtPoint 25 ∷ status.Joining 2 ∷ status.InSem 0 ∷ status.InWaitPid 2 ∷ status.Waiting 0 0 ∷ status.Reacquire 0 0 cause.Signalled ∷ status.Reacquire 0 0 cause.Broadcast ∷ []
+suspended_ones = status.AtPoint 16 ∷ status.AtPoint 25 ∷ status.Joining 2 ∷ status.InSem 0 ∷ status.InWaitPid 2 ∷ status.Waiting 0 0 ∷ status.Reacquire 0 0 cause.Signalled ∷ status.Reacquire 0 0 cause.Broadcast ∷ status.Reacquire 0 0 cause.TimedOut ∷ []
 
-are_suspended : map is_suspended suspended_ones ≡ replicate 8 true
+are_suspended : map is_suspended suspended_ones ≡ replicate 9 true
 are_suspended = refl
 
 are_not : map is_suspended (status.Running ∷ status.Reacquire 0 0 cause.Canceled ∷ status.Ending ∷ status.Forking (record { phase = Prepare; next = 0; length = 0; answer = 0 }) ∷ status.Exiting ∷ status.Ended 5 ∷ []) ≡ replicate 6 false
 are_not = refl
 
 -- with a request pending each of them may act
-each_may_act : map (λ status. may_act (thread status Enable true)) suspended_ones ≡ replicate 8 true
+each_may_act : map (λ status. may_act (thread status Enable true)) suspended_ones ≡ replicate 9 true
 unfolding runs_on_literals
 each_may_act = refl
 
@@ -327,6 +327,6 @@ a_suspended_thread_is_awakened : (t : Thread) → t.id ≡ 1 → t.gone ≡ fals
 a_suspended_thread_is_awakened t first here suspended may_not law =
     absurd (false≢true (sym may_not ∙ law 1 (process t) refl 1 t (ap (λ b. cond b (Some t) None) (eq-eqb t.id 1 first)) here suspended refl))
 
-none_may_act : map (λ status. may_act (thread status Enable false)) suspended_ones ≡ replicate 8 false
+none_may_act : map (λ status. may_act (thread status Enable false)) suspended_ones ≡ replicate 9 false
 unfolding runs_on_literals
 none_may_act = refl

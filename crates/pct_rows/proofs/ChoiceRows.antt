@@ -3,6 +3,7 @@ use Rattle.pct_names.proofs.Names.{◌++◌, [], Alt, by_slot, Candidate, candid
 use Rattle.pct_names.proofs.Names.{first_process, Frame, KeyPlace, List, map, new_frame, new_shared, new_thread, None, Process, refl}
 use Rattle.pct_names.proofs.Names.{replicate, running_choices, SharedState, slot_of, Some, Status, Stmt, Thread, true, World, ℕ, ◌∷◌, ◌≡◌}
 use Rattle.pct_model.specs.declared.schedule.Alt.TheVariants as alt
+use Rattle.pct_model.specs.declared.schedule.Format.TheVariants as format
 use Rattle.pct_model.specs.declared.state.FrameKind.TheVariants as kind
 use Rattle.pct_model.specs.declared.state.Status.TheVariants as status
 use Rattle.pct_model.specs.declared.statement.Dest.TheVariants as destination
@@ -12,9 +13,9 @@ use Rattle.pct_model.specs.declared.stop.Why.TheVariants as why
 use Rattle.pct_rows.proofs.OnLiterals.{runs_on_literals}
 use Rattle.pct_rows.proofs.ExampleScripts.{smallest}
 
--- four thread slots
+-- four thread slots, in format 1
 abbrev pub config : Config
-config = record { budget = 100; passes = 4; slots = 4 }
+config = record { budget = 100; passes = 4; slots = 4; format = format.One }
 
 -- a frame at the first statement of `main`, and a thread with it
 abbrev pub start : Frame
@@ -81,7 +82,7 @@ state_of processes = record { processes = processes; stop = None }
 
 -- a thread sees no others
 abbrev pub nobody : Environment
-nobody = environment_of 0 (state_of []) (process 1 []) 1
+nobody = environment_of (record config { slots = 0 }) (state_of []) (process 1 []) 1
 
 -- the choices of a running thread at a statement of `main`
 abbrev pub choices_before : SharedState → Thread → Environment → Stmt → List Alt

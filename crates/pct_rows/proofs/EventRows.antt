@@ -1,4 +1,4 @@
--- The texts of the events and the stops of processes, in a script with two functions.
+-- The texts of the events and the stops of processes and of waits with a time, in a script with a condition variable and two functions.
 use Rattle.pct_names.proofs.Names.{[], codes, Contents, digits, event_line, event_words, flat_map, is_static, IsTrue, keyword_text}
 use Rattle.pct_names.proofs.Names.{line_text, List, name_at, refl, Script, stop_words, syntax_of, thread_text, What, ℕ, ◌∷◌, ◌≡◌}
 use Rattle.pct_model.specs.declared.statement.Stmt.TheVariants as statement
@@ -11,7 +11,7 @@ abbrev contents : Contents
 contents = record {
   globals = [];
   mutexes = [];
-  conds = [];
+  conds = codes "c" ∷ [];
   sems = [];
   funcs = record { name = codes "f"; locals = codes "x" ∷ []; body = statement.End ∷ [] } ∷ record { name = codes "main"; locals = codes "x" ∷ []; body = statement.End ∷ [] } ∷ [];
 }
@@ -36,6 +36,11 @@ process_events = refl
 answer_events : lines (what.Answer caller.AtFork 2 ∷ what.Answer caller.Fork 1 ∷ what.Answer caller.WaitPid 3 ∷ []) ≡ codes "2.34 answer pthread_atfork 2\n2.34 answer fork 1\n2.34 answer waitpid 3\n"
 unfolding digits keyword_text syntax_of event_words thread_text event_line
 answer_events = refl
+
+-- the time of a wait expires
+expiry_events : lines (what.WaitExpired 0 ∷ what.Answer caller.CondTimedWait 4 ∷ what.Answer caller.SemTimedWait 4 ∷ []) ≡ codes "2.34 expire c\n2.34 answer pthread_cond_timedwait 4\n2.34 answer sem_timedwait 4\n"
+unfolding digits keyword_text name_at syntax_of event_words thread_text event_line
+expiry_events = refl
 
 -- stops
 stop_events : lines (what.Stopped why.ForkChildCall ∷ what.Stopped why.ForkInEnding ∷ []) ≡ codes "2.34 profile fork_child_call\n2.34 profile fork_in_ending\n"

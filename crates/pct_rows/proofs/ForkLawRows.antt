@@ -1,8 +1,8 @@
 -- The law of fork handlers: steps that keep it, and steps that do not, each with the name of the sentence that it breaks.
-use Rattle.pct_names.proofs.Names.{[], All-from_recursion, ap, arith, codes, false, false≢true, first_process, ForkAt, Forked}
-use Rattle.pct_names.proofs.Names.{ForkHandlers, Func, inl, inr, IsTrue, length, List, Main, map, new_frame, new_shared, new_thread, None}
-use Rattle.pct_names.proofs.Names.{none-some, Option, Parent, Phase, Prepare, Process, refl, Running, same_Some, Script, Some, Status}
-use Rattle.pct_names.proofs.Names.{subst, sym, Thread, What, ℕ, ◌∙◌, ◌∷◌, ◌≡◌, ◌≢◌}
+use Rattle.pct_names.proofs.Names.{[], All-from_recursion, ap, arith, codes, false, false≢true, first_process, ForkAt, Forked, ForkHandlers}
+use Rattle.pct_names.proofs.Names.{Func, inl, inr, IsTrue, length, List, Main, map, new_frame, new_shared, new_thread, None, none-some}
+use Rattle.pct_names.proofs.Names.{Option, Parent, Phase, Prepare, Process, refl, Running, same_Some, Script, Some, Status, subst, sym}
+use Rattle.pct_names.proofs.Names.{Thread, What, ℕ, ◌∙◌, ◌∷◌, ◌≡◌, ◌≢◌}
 use Rattle.pct_model.specs.declared.event.Caller.TheVariants as caller
 use Rattle.pct_model.specs.declared.event.What.TheVariants as what
 use Rattle.pct_model.specs.declared.state.FrameKind.TheVariants as kind
@@ -82,7 +82,7 @@ unfolding runs_on_literals
 all_are_left = record {
   begun = λ calls goes. refl;
   called = All-from_recursion (λ w. EachHandler w (step_to returned [] (in_phase phase.Prepare 3))) [] tt;
-  made = λ answers. absurd (false≢true answers);
+  made = λ answer answers. absurd (none-some answer answers);
   returned = λ fork in_fork was none. absurd (false≢true in_fork);
   resumed = λ outside no_call stays. absurd (false≢true (sym no_call));
   kept = λ no_call no_answer quiet. absurd (false≢true (sym no_call));
@@ -107,13 +107,11 @@ first_of (f ∷ fs) = f
 the_newest_is_called : CallsHandler phase.Prepare 12 (step_to (in_phase phase.Prepare 3) (what.PrepareRun 12 ∷ []) (in_handler phase.Prepare 2))
 the_newest_is_called = record {
   fork = record { phase = phase.Prepare; next = 3; length = 3; answer = 0 };
-  fork_after = record { phase = phase.Prepare; next = 2; length = 3; answer = 0 };
+  next = 2;
   before = refl;
-  after = refl;
   in_phase = refl;
-  next = refl;
-  same_phase = refl;
-  same_length = refl;
+  after = refl;
+  first = refl;
 }
 
 -- the handlers that are left to call, of a thread
@@ -124,7 +122,7 @@ left (Some fork) = left_to_call registered fork
 -- the handler that is called is the first
 called_first : (at : Phase) (f : ℕ) (s : ThreadStep) → s.process.shared.fork_handlers ≡ registered → CallsHandler at f s → left (fork_of s.before) ≡ f ∷ left (fork_of s.after)
 called_first at f s is law =
-    ap left law.before ∙ subst (λ (hs : List ForkHandlers). left_to_call hs law.fork ≡ f ∷ left_to_call hs law.fork_after) is law.next
+    ap left law.before ∙ subst (λ (hs : List ForkHandlers). left_to_call hs law.fork ≡ f ∷ left_to_call hs (record law.fork { next = law.next })) is law.first
     ∙ ap (λ (found : Option ForkAt). f ∷ left found) (sym law.after)
 
 the_oldest_is_not : CallsHandler phase.Prepare 10 (step_to (in_phase phase.Prepare 3) (what.PrepareRun 10 ∷ []) (in_handler phase.Prepare 0)) → ⊥
@@ -142,38 +140,34 @@ only_fork_calls_them law = none-some law.fork law.before
 
 -- ---- the fork, and the return
 
-forks_with_none_left : ForksWithNoneLeft (step_to (in_phase phase.Prepare 0) (what.Forked 2 ∷ []) (at_fork (forking phase.Parent 0 3 2) None))
+forks_with_none_left : ForksWithNoneLeft 2 (step_to (in_phase phase.Prepare 0) (what.Forked 2 ∷ []) (at_fork (forking phase.Parent 0 3 2) None))
 forks_with_none_left = record {
   fork = record { phase = phase.Prepare; next = 0; length = 3; answer = 0 };
-  fork_after = record { phase = phase.Parent; next = 0; length = 3; answer = 2 };
   before = refl;
-  after = refl;
   prepared = refl;
   none_left = refl;
-  next = refl;
-  all_left = refl;
-  same_length = refl;
+  after = refl;
 }
 
 -- the handlers that are left as a process is made
-none_left_then : (s : ThreadStep) → s.process.shared.fork_handlers ≡ registered → ForksWithNoneLeft s → left (fork_of s.before) ≡ []
-none_left_then s is law = ap left law.before ∙ subst (λ (hs : List ForkHandlers). left_to_call hs law.fork ≡ []) is law.none_left
+none_left_then : (answer : ℕ) (s : ThreadStep) → s.process.shared.fork_handlers ≡ registered → ForksWithNoneLeft answer s → left (fork_of s.before) ≡ []
+none_left_then answer s is law = ap left law.before ∙ subst (λ (hs : List ForkHandlers). left_to_call hs law.fork ≡ []) is law.none_left
 
 not_with_a_prepare_handler_left : KeepsFork script (step_to (in_phase phase.Prepare 1) (what.Forked 2 ∷ []) (at_fork (forking phase.Parent 0 3 2) None)) → ⊥
-not_with_a_prepare_handler_left law = let n : ◌≡◌ {A = ℕ} 1 0 = ap (λ (fs : List ℕ). length fs) (none_left_then _ refl (law.made refl)) in omega (arith, n)
+not_with_a_prepare_handler_left law = let n : ◌≡◌ {A = ℕ} 1 0 = ap (λ (fs : List ℕ). length fs) (none_left_then 2 _ refl (law.made 2 refl)) in omega (arith, n)
 
 nor_if_it_fails : KeepsFork script (step_to (in_phase phase.Prepare 1) (what.Answer caller.Fork 1 ∷ []) (at_fork (forking phase.Parent 0 3 0) None)) → ⊥
-nor_if_it_fails law = let n : ◌≡◌ {A = ℕ} 1 0 = ap (λ (fs : List ℕ). length fs) (none_left_then _ refl (law.made refl)) in omega (arith, n)
+nor_if_it_fails law = let n : ◌≡◌ {A = ℕ} 1 0 = ap (λ (fs : List ℕ). length fs) (none_left_then 0 _ refl (law.made 0 refl)) in omega (arith, n)
 
-the_parent_handlers_are_next : ForksWithNoneLeft (step_to (in_phase phase.Prepare 0) (what.Forked 2 ∷ []) (at_fork (forking phase.Parent 1 3 2) None)) → ⊥
-the_parent_handlers_are_next law = let n : ◌≡◌ {A = ℕ} 1 0 = ap left_of law.after ∙ law.all_left in omega (arith, n)
+the_parent_handlers_are_next : ForksWithNoneLeft 2 (step_to (in_phase phase.Prepare 0) (what.Forked 2 ∷ []) (at_fork (forking phase.Parent 1 3 2) None)) → ⊥
+the_parent_handlers_are_next law = let n : ◌≡◌ {A = ℕ} 1 0 = ap left_of law.after in omega (arith, n)
 
 returns_with_none_left : KeepsFork script (step_to (in_phase phase.Parent 3) [] returned)
 unfolding runs_on_literals
 returns_with_none_left = record {
   begun = λ calls goes. absurd (false≢true calls);
   called = All-from_recursion (λ w. EachHandler w (step_to (in_phase phase.Parent 3) [] returned)) [] tt;
-  made = λ answers. absurd (false≢true answers);
+  made = λ answer answers. absurd (none-some answer answers);
   returned = λ fork in_fork was none.
       subst (λ (x : ForkAt). (left_to_call registered x ≡ []) × (x.phase ≢ phase.Prepare)) (same_Some (record { phase = phase.Parent; next = 3; length = 3; answer = 0 }) fork was) (refl, λ is. absurd (cc));
   resumed = λ outside no_call stays. absurd (false≢true (sym outside));
@@ -198,7 +192,7 @@ unfolding runs_on_literals
 a_handler_returns_to_its_fork = record {
   begun = λ calls goes. absurd (false≢true calls);
   called = All-from_recursion (λ w. EachHandler w (step_to (in_handler phase.Prepare 2) [] (in_phase phase.Prepare 2))) [] tt;
-  made = λ answers. absurd (false≢true answers);
+  made = λ answer answers. absurd (none-some answer answers);
   returned = λ fork in_fork was none. absurd (false≢true in_fork);
   resumed = λ outside no_call stays. refl;
   kept = λ no_call no_answer quiet. inl refl;
@@ -218,7 +212,7 @@ unfolding runs_on_literals
 an_end_ends_the_fork = record {
   begun = λ calls goes. absurd (false≢true calls);
   called = All-from_recursion (λ w. EachHandler w (step_to (in_handler phase.Prepare 2) (what.EndingCanceled ∷ []) returned)) (what.EndingCanceled ∷ []) (tt, tt);
-  made = λ answers. absurd (false≢true answers);
+  made = λ answer answers. absurd (none-some answer answers);
   returned = λ fork in_fork was none. absurd (false≢true in_fork);
   resumed = λ outside no_call stays. absurd (false≢true (sym stays));
   kept = λ no_call no_answer quiet. inr refl;
@@ -231,3 +225,26 @@ a_handler_keeps_its_fork law = elim (law.kept refl refl refl) [
   | inl same ↦ let n : ◌≡◌ {A = ℕ} 3 1 = ap left_of same in omega (arith, n)
   | inr none ↦ none-some (record { phase = phase.Parent; next = 3; length = 3; answer = 0 }) (sym none)
 ]
+
+-- ---- the answer of fork, until it returns
+
+-- the answer that a fork has got
+abbrev answer_of : Option ForkAt → ℕ
+answer_of None = 0
+answer_of (Some fork) = fork.answer
+
+the_event_gives_the_answer : ForksWithNoneLeft 2 (step_to (in_phase phase.Prepare 0) (what.Forked 2 ∷ []) (at_fork (forking phase.Parent 0 3 3) None)) → ⊥
+the_event_gives_the_answer law = let n : ◌≡◌ {A = ℕ} 3 2 = ap answer_of law.after in omega (arith, n)
+
+where_no_process_is_made_it_is_0 : KeepsFork script (step_to (in_phase phase.Prepare 0) (what.Answer caller.Fork 1 ∷ []) (at_fork (forking phase.Parent 0 3 2) None)) → ⊥
+where_no_process_is_made_it_is_0 law = let n : ◌≡◌ {A = ℕ} 2 0 = ap answer_of (law.made 0 refl).after in omega (arith, n)
+
+no_handler_changes_it : KeepsFork script (step_to (in_handler phase.Parent 1) [] (at_fork (forking phase.Parent 1 3 2) None)) → ⊥
+unfolding runs_on_literals
+no_handler_changes_it law = let n : ◌≡◌ {A = ℕ} 2 0 = ap answer_of (law.resumed refl refl refl) in omega (arith, n)
+
+nor_its_call : CallsHandler phase.Parent 21 (step_to (in_phase phase.Parent 0) (what.ParentRun 21 ∷ []) (record (in_handler phase.Parent 2) { kept = Some (record { phase = phase.Parent; next = 2; length = 3; answer = 2 }) })) → ⊥
+nor_its_call law =
+    let before : 0 ≡ law.fork.answer = ap answer_of law.before in
+    let after : 2 ≡ law.fork.answer = ap answer_of law.after in
+    omega (arith, before, after)

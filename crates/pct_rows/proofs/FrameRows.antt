@@ -1,8 +1,8 @@
 -- The law of frames: made steps that keep it, and made steps that do not. Each step that does not differs from one that does in one thing, and
 -- has the name of the sentence that it breaks.
-use Rattle.pct_names.proofs.Names.{[], ap, arith, Bool, codes, false, false≢true, first_process, Frame, FrameKind, Func, is_static, IsTrue}
-use Rattle.pct_names.proofs.Names.{length, List, map, new_frame, new_thread, Option, refl, Script, slice_index, Some, Status, Stmt, Thread}
-use Rattle.pct_names.proofs.Names.{true, What, ℕ, ◌∷◌, ◌≡◌}
+use Rattle.pct_names.proofs.Names.{[], ap, arith, Bool, codes, false, false≢true, first_process, Frame, FrameKind, Func, has_no_frame}
+use Rattle.pct_names.proofs.Names.{is_static, IsTrue, length, List, map, new_frame, new_thread, Option, refl, Script, slice_index, Some}
+use Rattle.pct_names.proofs.Names.{Status, Stmt, sym, Thread, true, What, ℕ, ◌∷◌, ◌≡◌}
 use Rattle.pct_model.specs.declared.event.What.TheVariants as what
 use Rattle.pct_model.specs.declared.state.FrameKind.TheVariants as kind
 use Rattle.pct_model.specs.declared.state.Phase.TheVariants as phase
@@ -11,7 +11,7 @@ use Rattle.pct_model.specs.declared.statement.Dest.TheVariants as destination
 use Rattle.pct_model.specs.declared.statement.Operand.TheVariants as operand
 use Rattle.pct_model.specs.declared.statement.Stmt.TheVariants as statement
 use Rattle.pct_model.specs.declared.stop.Why.TheVariants as why
-use Rattle.pct_laws.specs.FrameLaw.{KeepsOtherFrames, MovesFrames, Place, StaysInHandler}
+use Rattle.pct_laws.specs.FrameLaw.{MovesFrames, Place, StaysInHandler}
 use Rattle.pct_laws.specs.ThreadSteps.{ThreadStep}
 use Rattle.pct_rows.proofs.ExampleScripts.{forking}
 use Rattle.pct_rows.proofs.OnLiterals.{checks_on_literals, runs_on_literals}
@@ -61,7 +61,7 @@ work pc a k = record (new_frame 1 a k) { pc = pc }
 abbrev thread : Status → List Frame → Thread
 thread s frames = record (new_thread 1 false (main 0)) { status = s; frames = frames }
 
--- a step of thread 1 with these events. The law asks nothing of its status after it
+-- a step of thread 1 with these events, after which it runs
 abbrev step : Status → List Frame → List What → List Frame → ThreadStep
 step s before events after = record {
   pid = 1;
@@ -103,7 +103,7 @@ depth places = length places
 
 a_statement_is_followed_by_the_next : Moves status.Running (main 0 ∷ []) [] (main 1 ∷ [])
 unfolding runs_on_literals
-a_statement_is_followed_by_the_next = record { places = refl; arguments = refl }
+a_statement_is_followed_by_the_next = record { places = refl; arguments = refl; runs = λ calls. refl }
 
 no_statement_is_skipped : Moves status.Running (main 0 ∷ []) [] (main 2 ∷ []) → ⊥
 unfolding runs_on_literals
@@ -115,7 +115,7 @@ none_is_executed_again law = let n : ◌≡◌ {A = ℕ} 0 1 = ap top_pc law.pla
 
 if_0_goes_past_the_else : Moves status.Running (main 1 ∷ []) [] (main 4 ∷ [])
 unfolding runs_on_literals
-if_0_goes_past_the_else = record { places = refl; arguments = refl }
+if_0_goes_past_the_else = record { places = refl; arguments = refl; runs = λ calls. refl }
 
 and_not_into_its_block : Moves status.Running (main 1 ∷ []) [] (main 2 ∷ []) → ⊥
 unfolding runs_on_literals
@@ -123,15 +123,15 @@ and_not_into_its_block law = let n : ◌≡◌ {A = ℕ} 2 4 = ap top_pc law.pla
 
 else_goes_past_the_end : Moves status.Running (main 3 ∷ []) [] (main 6 ∷ [])
 unfolding runs_on_literals
-else_goes_past_the_end = record { places = refl; arguments = refl }
+else_goes_past_the_end = record { places = refl; arguments = refl; runs = λ calls. refl }
 
 while_0_goes_past_the_end : Moves status.Running (main 7 ∷ []) [] (main 10 ∷ [])
 unfolding runs_on_literals
-while_0_goes_past_the_end = record { places = refl; arguments = refl }
+while_0_goes_past_the_end = record { places = refl; arguments = refl; runs = λ calls. refl }
 
 the_end_of_a_while_goes_to_it : Moves status.Running (main 9 ∷ []) [] (main 7 ∷ [])
 unfolding runs_on_literals
-the_end_of_a_while_goes_to_it = record { places = refl; arguments = refl }
+the_end_of_a_while_goes_to_it = record { places = refl; arguments = refl; runs = λ calls. refl }
 
 and_not_on : Moves status.Running (main 9 ∷ []) [] (main 10 ∷ []) → ⊥
 unfolding runs_on_literals
@@ -141,7 +141,7 @@ and_not_on law = let n : ◌≡◌ {A = ℕ} 10 7 = ap top_pc law.places in omeg
 
 do_calls_the_function : Moves status.Running (main 6 ∷ []) [] (work 0 7 kind.Call ∷ main 7 ∷ [])
 unfolding runs_on_literals
-do_calls_the_function = record { places = refl; arguments = refl }
+do_calls_the_function = record { places = refl; arguments = refl; runs = λ calls. refl }
 
 and_no_other_function : Moves status.Running (main 6 ∷ []) [] (new_frame 0 7 kind.Call ∷ main 7 ∷ []) → ⊥
 unfolding runs_on_literals
@@ -177,7 +177,7 @@ do_calls_a_function law = let n : ◌≡◌ {A = ℕ} 1 2 = ap depth law.places 
 
 a_return_goes_to_the_caller : Moves status.Running (work 1 7 kind.Call ∷ main 7 ∷ []) [] (main 7 ∷ [])
 unfolding runs_on_literals
-a_return_goes_to_the_caller = record { places = refl; arguments = refl }
+a_return_goes_to_the_caller = record { places = refl; arguments = refl; runs = λ calls. refl }
 
 and_no_further : Moves status.Running (work 1 7 kind.Call ∷ main 7 ∷ []) [] (main 8 ∷ []) → ⊥
 unfolding runs_on_literals
@@ -194,7 +194,7 @@ none_is_lost_by_another_statement law = let n : ◌≡◌ {A = ℕ} 1 2 = ap dep
 -- ---- handlers
 
 a_handler_is_called : Moves status.Ending [] (what.HandlerRun 1 4 ∷ []) (work 0 4 kind.Handler ∷ [])
-a_handler_is_called = record { places = refl; arguments = refl }
+a_handler_is_called = record { places = refl; arguments = refl; runs = λ calls. refl }
 
 with_its_argument : Moves status.Ending [] (what.HandlerRun 1 4 ∷ []) (work 0 0 kind.Handler ∷ []) → ⊥
 with_its_argument law = let n : ◌≡◌ {A = ℕ} 0 4 = ap (top_local 0) law.arguments in omega (arith, n)
@@ -202,9 +202,12 @@ with_its_argument law = let n : ◌≡◌ {A = ℕ} 0 4 = ap (top_local 0) law.a
 a_handler_has_0_in_its_other_locals : Moves status.Ending [] (what.HandlerRun 1 4 ∷ []) (record (work 0 4 kind.Handler) { locals = 4 ∷ 4 ∷ 0 ∷ 0 ∷ 0 ∷ 0 ∷ 0 ∷ 0 ∷ [] } ∷ []) → ⊥
 a_handler_has_0_in_its_other_locals law = let n : ◌≡◌ {A = ℕ} 4 0 = ap (top_local 1) law.arguments in omega (arith, n)
 
+its_thread_runs : MovesFrames script (record (step status.Ending [] (what.HandlerRun 1 4 ∷ []) (work 0 4 kind.Handler ∷ [])) { after = thread status.Ending (work 0 4 kind.Handler ∷ []) }) → ⊥
+its_thread_runs law = absurd (false≢true (sym (ap has_no_frame (law.runs refl))))
+
 its_statements_are_executed : Moves status.Running (work 0 4 kind.Handler ∷ []) (what.Emit 4 ∷ []) (work 1 4 kind.Handler ∷ [])
 unfolding runs_on_literals
-its_statements_are_executed = record { places = refl; arguments = refl }
+its_statements_are_executed = record { places = refl; arguments = refl; runs = λ calls. refl }
 
 no_handler_returns_at_once : Moves status.Running (work 0 4 kind.Handler ∷ []) [] [] → ⊥
 unfolding runs_on_literals
@@ -216,15 +219,15 @@ nor_after_its_first_statement law = let n : ◌≡◌ {A = ℕ} 0 1 = ap depth l
 
 it_returns_at_its_end : Moves status.Running (work 1 4 kind.Handler ∷ []) [] []
 unfolding runs_on_literals
-it_returns_at_its_end = record { places = refl; arguments = refl }
+it_returns_at_its_end = record { places = refl; arguments = refl; runs = λ calls. refl }
 
 a_pop_calls_a_handler : Moves status.Running (main 13 ∷ []) (what.Popped 1 4 true ∷ []) (work 0 4 kind.PopHandler ∷ main 14 ∷ [])
 unfolding runs_on_literals
-a_pop_calls_a_handler = record { places = refl; arguments = refl }
+a_pop_calls_a_handler = record { places = refl; arguments = refl; runs = λ calls. refl }
 
 or_only_removes_it : Moves status.Running (main 13 ∷ []) (what.Popped 1 4 false ∷ []) (main 14 ∷ [])
 unfolding runs_on_literals
-or_only_removes_it = record { places = refl; arguments = refl }
+or_only_removes_it = record { places = refl; arguments = refl; runs = λ calls. refl }
 
 no_pop_is_executed_again : Moves status.Running (main 13 ∷ []) (what.Popped 1 4 true ∷ []) (work 0 4 kind.PopHandler ∷ main 13 ∷ []) → ⊥
 unfolding runs_on_literals
@@ -233,7 +236,7 @@ no_pop_is_executed_again law = let n : ◌≡◌ {A = ℕ} 13 14 = ap lower_pc l
 -- ---- the end of a thread, and the exit of its process
 
 an_end_leaves_all_functions : Moves status.Running (work 0 7 kind.Call ∷ main 7 ∷ []) (what.EndingCanceled ∷ []) []
-an_end_leaves_all_functions = record { places = refl; arguments = refl }
+an_end_leaves_all_functions = record { places = refl; arguments = refl; runs = λ calls. refl }
 
 and_not_the_top_one_alone : Moves status.Running (work 0 7 kind.Call ∷ main 7 ∷ []) (what.EndingCanceled ∷ []) (main 7 ∷ []) → ⊥
 and_not_the_top_one_alone law = let n : ◌≡◌ {A = ℕ} 1 0 = ap depth law.places in omega (arith, n)
@@ -243,13 +246,13 @@ so_does_an_exit law = let n : ◌≡◌ {A = ℕ} 2 0 = ap depth law.places in o
 
 a_stop_leaves_none : Moves status.Running (main 6 ∷ []) (what.Stopped why.StackFull ∷ []) (main 6 ∷ [])
 unfolding runs_on_literals
-a_stop_leaves_none = record { places = refl; arguments = refl }
+a_stop_leaves_none = record { places = refl; arguments = refl; runs = λ calls. refl }
 
 -- ---- calls that suspend the thread
 
 a_call_that_waits_stays : Moves status.Running (main 10 ∷ []) (what.Called 62 ∷ []) (main 10 ∷ [])
 unfolding runs_on_literals
-a_call_that_waits_stays = record { places = refl; arguments = refl }
+a_call_that_waits_stays = record { places = refl; arguments = refl; runs = λ calls. refl }
 
 and_does_not_go_on : Moves status.Running (main 10 ∷ []) (what.Called 62 ∷ []) (main 11 ∷ []) → ⊥
 unfolding runs_on_literals
@@ -257,7 +260,7 @@ and_does_not_go_on law = let n : ◌≡◌ {A = ℕ} 11 10 = ap top_pc law.place
 
 until_it_returns : Moves (status.Joining 2) (main 10 ∷ []) (what.Joined 2 5 ∷ []) (main 11 ∷ [])
 unfolding runs_on_literals
-until_it_returns = record { places = refl; arguments = refl }
+until_it_returns = record { places = refl; arguments = refl; runs = λ calls. refl }
 
 it_is_not_called_again : Moves (status.Joining 2) (main 10 ∷ []) (what.Joined 2 5 ∷ []) (main 10 ∷ []) → ⊥
 unfolding runs_on_literals
@@ -265,48 +268,19 @@ it_is_not_called_again law = let n : ◌≡◌ {A = ℕ} 10 11 = ap top_pc law.p
 
 a_call_of_fork_stays : Moves status.Running (main 11 ∷ []) [] (main 11 ∷ [])
 unfolding runs_on_literals
-a_call_of_fork_stays = record { places = refl; arguments = refl }
+a_call_of_fork_stays = record { places = refl; arguments = refl; runs = λ calls. refl }
 
 while_its_handlers_are_called : Moves (forking phase.Prepare 1 1 0) (main 11 ∷ []) (what.PrepareRun 1 ∷ []) (work 0 0 kind.ForkFn ∷ main 11 ∷ [])
 unfolding runs_on_literals
-while_its_handlers_are_called = record { places = refl; arguments = refl }
+while_its_handlers_are_called = record { places = refl; arguments = refl; runs = λ calls. refl }
 
 and_a_process_is_made : Moves (forking phase.Prepare 0 1 0) (main 11 ∷ []) (what.Forked 2 ∷ []) (main 11 ∷ [])
 unfolding runs_on_literals
-and_a_process_is_made = record { places = refl; arguments = refl }
+and_a_process_is_made = record { places = refl; arguments = refl; runs = λ calls. refl }
 
 until_fork_returns : Moves (forking phase.Parent 1 1 2) (main 11 ∷ []) [] (main 12 ∷ [])
 unfolding runs_on_literals
-until_fork_returns = record { places = refl; arguments = refl }
-
--- ---- other threads
-
--- a step of thread 1, before and after which thread 2 has these frames
-abbrev beside : List Frame → List Frame → ThreadStep
-beside before after = record (step status.Running (main 0 ∷ []) [] (main 1 ∷ [])) {
-  process = record (first_process script) { threads = thread status.Running (main 0 ∷ []) ∷ record (thread status.Running before) { id = 2 } ∷ [] };
-  process_after = record (first_process script) { threads = thread status.Running (main 1 ∷ []) ∷ record (thread status.Running after) { id = 2 } ∷ [] };
-}
-
-no_frame_of_another_thread_goes : KeepsOtherFrames (beside (work 0 7 kind.Start ∷ []) []) → ⊥
-no_frame_of_another_thread_goes law =
-    let n : ◌≡◌ {A = ℕ} 0 1 = ap (λ (frames : List Frame). length frames) (law 2 (record (thread status.Running (work 0 7 kind.Start ∷ [])) { id = 2 }) (record (thread status.Running []) { id = 2 }) differs refl refl) in
-    omega (arith, n)
-  where
-    differs : ◌≡◌ {A = ℕ} 2 1 → ⊥
-    differs same = omega (arith, same)
-
-no_other_thread_goes_on : KeepsOtherFrames (beside (work 0 7 kind.Start ∷ []) (work 1 7 kind.Start ∷ [])) → ⊥
-no_other_thread_goes_on law =
-    let n : ◌≡◌ {A = ℕ} 1 0 = ap pc_of (law 2 (record (thread status.Running (work 0 7 kind.Start ∷ [])) { id = 2 }) (record (thread status.Running (work 1 7 kind.Start ∷ [])) { id = 2 }) differs refl refl) in
-    omega (arith, n)
-  where
-    differs : ◌≡◌ {A = ℕ} 2 1 → ⊥
-    differs same = omega (arith, same)
-
-    pc_of : List Frame → ℕ
-    pc_of [] = 0
-    pc_of (frame ∷ below) = frame.pc
+until_fork_returns = record { places = refl; arguments = refl; runs = λ calls. refl }
 
 -- ---- handlers of an end
 

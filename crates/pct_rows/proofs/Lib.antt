@@ -29,3 +29,4 @@ mod OneLawRows
 mod OptionRows
 mod EventRows
 mod StaticRows
+mod FormatRows

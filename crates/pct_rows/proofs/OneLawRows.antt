@@ -2,8 +2,9 @@
 -- from the others. But for one: the law of handlers that ran follows from two others, and the list that it refuses here is also refused by
 -- one of them. No such list breaks the sentence that a thread that has ended joins none: the law of what follows an end refuses it, too. The
 -- lists are newest first.
-use Rattle.pct_names.proofs.Names.{◌++◌, [], Bool, cond_wait_point, Event, false, join_point, List, map, point_kind, points, refl}
-use Rattle.pct_names.proofs.Names.{replicate, sem_wait_point, testcancel_point, true, waitpid_point, What, ◌∷◌, ◌≡◌}
+use Rattle.pct_names.proofs.Names.{◌++◌, [], Bool, cond_timedwait_point, cond_wait_point, Event, false, join_point, List, map, point_kind}
+use Rattle.pct_names.proofs.Names.{points, refl, replicate, sem_timedwait_point, sem_wait_point, testcancel_point, true, waitpid_point}
+use Rattle.pct_names.proofs.Names.{What, ◌∷◌, ◌≡◌}
 use Rattle.pct_model.specs.declared.event.Caller.TheVariants as caller
 use Rattle.pct_model.specs.declared.event.What.TheVariants as what
 use Rattle.pct_model.specs.declared.stop.Why.TheVariants as why
@@ -169,6 +170,24 @@ returned_without_a_take = refl
 taken_without_a_call : OnlyRefuses Requests (event (what.Taken 0) ∷ [])
 taken_without_a_call = refl
 
+-- sem_timedwait times out without a call, and after one of sem_wait
+timed_out_without_a_call : OnlyRefuses Requests (event (what.Answer caller.SemTimedWait 4) ∷ [])
+timed_out_without_a_call = refl
+
+timed_out_without_a_time : OnlyRefuses Requests (event (what.Answer caller.SemTimedWait 4) ∷ event (what.Called sem_wait_point) ∷ [])
+timed_out_without_a_time = refl
+
+-- it returns from sem_timedwait, and neither takes anything nor times out
+returned_in_time_without_a_take : OnlyRefuses Requests (event (what.Done sem_timedwait_point) ∷ event (what.Called sem_timedwait_point) ∷ [])
+returned_in_time_without_a_take = refl
+
+-- the time of a condition wait expires, and it is in none; and pthread_cond_timedwait times out without a wait
+expired_without_a_wait : OnlyRefuses Requests (event (what.WaitExpired 1) ∷ [])
+expired_without_a_wait = refl
+
+timed_out_without_a_wait : OnlyRefuses Requests (event (what.Answer caller.CondTimedWait 4) ∷ [])
+timed_out_without_a_wait = refl
+
 -- it reaps a child without a call of waitpid
 reaped_without_a_call : OnlyRefuses Requests (event (what.Reaped 2 5) ∷ replica (what.ProcessEnded 5) ∷ event (what.Forked 2) ∷ [])
 reaped_without_a_call = refl
@@ -186,6 +205,14 @@ requested_without_a_thread = refl
 -- a mutex is released that its thread does not own
 released_without_an_owner : OnlyRefuses Conds (event (what.Released 0) ∷ [])
 released_without_an_owner = refl
+
+-- a wait whose time expired returns another error
+timed_out_with_another_error : OnlyRefuses Conds (event (what.Answer caller.CondTimedWait 3) ∷ event (what.Acquired 0) ∷ event (what.WaitExpired 1) ∷ event (what.Released 0) ∷ event (what.Called cond_timedwait_point) ∷ event (what.Acquired 0) ∷ [])
+timed_out_with_another_error = refl
+
+-- a wait with a time returns by the name of one without
+returned_by_another_name : OnlyRefuses Conds (event (what.Done cond_wait_point) ∷ event (what.Acquired 0) ∷ event (what.Released 0) ∷ event (what.Called cond_timedwait_point) ∷ event (what.Acquired 0) ∷ [])
+returned_by_another_name = refl
 
 -- a thread is created with the id of the initial thread
 created_again : OnlyRefuses Slots (event (what.Created 1 false) ∷ [])

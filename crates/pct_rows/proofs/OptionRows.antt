@@ -1,6 +1,7 @@
 -- The arguments of `run`: words that give options, and words that are refused. The first word of each row is left out where it is `run`.
 use Rattle.pct_names.proofs.Names.{◌++◌, [], Bool, codes, is_none, List, map, Option, refl, replicate, run_options, RunOptions, Some, true}
 use Rattle.pct_names.proofs.Names.{ℕ, ◌∷◌, ◌≡◌}
+use Rattle.pct_model.specs.declared.schedule.Format.TheVariants.{One}
 use Rattle.pct_rows.proofs.OnLiterals.{options_on_literals}
 
 -- the numbers that these words ask for, after `run`
@@ -9,7 +10,7 @@ asked words = run_options (codes "run" ∷ words)
 
 -- the budget, the passes, the slots and the seed of a run, its workers and their turns
 abbrev numbers_with : ℕ → ℕ → ℕ → ℕ → ℕ → ℕ → Option RunOptions
-numbers_with budget passes slots seed workers turns = Some (record { config = record { budget = budget; passes = passes; slots = slots }; seed = seed; workers = workers; turns = turns })
+numbers_with budget passes slots seed workers turns = Some (record { config = record { budget = budget; passes = passes; slots = slots; format = One }; seed = seed; workers = workers; turns = turns })
 
 -- the same of one worker, with as many turns as the budget
 abbrev numbers : ℕ → ℕ → ℕ → ℕ → Option RunOptions

@@ -1,10 +1,10 @@
 -- The outcomes of two example scripts: the lines of each text, the script that it spells, and its run.
 use Rattle.pct_names.proofs.Names.{[], AreContents, arith, code_of_verdict, codes, contents_of, declaration_syntax, declarations, declaring}
-use Rattle.pct_names.proofs.Names.{default_config, encode, is_name, is_some, Line, line_kind_of, line_kinds, LineKind, lines_of, List}
-use Rattle.pct_names.proofs.Names.{list_all, map, None, numeral, opening, Option, parsed, parsed_lines, parsed_words, point_name, point_of}
-use Rattle.pct_names.proofs.Names.{point_statement, points, refl, replicate, resolve, resolve_all, resolve_name, Run, run, RunOptions, Runs}
-use Rattle.pct_names.proofs.Names.{Script, Some, spelled_lines, SpellsContents, split_sections, subst, sym, SymbolKind, syntax_of, Token}
-use Rattle.pct_names.proofs.Names.{token_at, tokens_at, true, unwrap_or, verdict_of, words_in, ℕ, ◌∷◌, ◌≡◌}
+use Rattle.pct_names.proofs.Names.{default_config, encode, format_of, is_name, is_some, Line, line_kind_of, line_kinds, LineKind, lines_of}
+use Rattle.pct_names.proofs.Names.{List, list_all, map, None, numeral, opening, Option, parsed, parsed_lines, parsed_words, point_name}
+use Rattle.pct_names.proofs.Names.{point_of, point_statement, points, refl, replicate, resolve, resolve_all, resolve_name, Run, run}
+use Rattle.pct_names.proofs.Names.{RunOptions, Runs, Script, Some, spelled_lines, SpellsContents, split_sections, subst, sym, SymbolKind}
+use Rattle.pct_names.proofs.Names.{syntax_of, Token, token_at, tokens_at, true, unwrap_or, verdict_of, words_in, ℕ, ◌∷◌, ◌≡◌}
 use Rattle.pct_model.specs.declared.line_kind.LineKind.TheVariants as line_kind
 use Rattle.pct_model.specs.declared.line_kind.SymbolKind.TheVariants as kind
 use Rattle.pct_model.specs.declared.parsed_line.Token.TheVariants as token
@@ -71,7 +71,7 @@ smallest_completes = refl
 
 -- the outcome of `run`
 pub smallest_runs : Runs (codes "run" ∷ []) smallest_text (replicate 2 first_goes) 0 smallest_report
-unfolding options_on_literals
+unfolding options_on_literals format_of
 smallest_runs = record { options = default_options; accepted = refl; fits = omega arith; script = smallest; spelled = smallest_spelled; after = end_of smallest 2; is_run = is_its_end (run smallest default_config (replicate 2 first_goes)) _ smallest_is_legal; code_is = sym smallest_completes; text_is = smallest_reported }
 
 -- ---- the script with a cleanup handler
@@ -116,5 +116,5 @@ cleanup_completes = refl
 
 -- the outcome of `run`
 pub cleanup_runs : Runs (codes "run" ∷ []) cleanup_text (replicate 7 first_goes) 0 cleanup_report
-unfolding options_on_literals
+unfolding options_on_literals format_of
 cleanup_runs = record { options = default_options; accepted = refl; fits = omega arith; script = cleanup; spelled = cleanup_spelled; after = end_of cleanup 7; is_run = is_its_end (run cleanup default_config (replicate 7 first_goes)) _ cleanup_is_legal; code_is = sym cleanup_completes; text_is = cleanup_reported }

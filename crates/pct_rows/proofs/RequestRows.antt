@@ -1,7 +1,7 @@
 -- Lists of events that keep the law of cancellation, and lists that do not, each with the name of the sentence that it breaks; they are
 -- listed newest first. Where nothing else is said, the events are those of thread 1 of process 1, whose thread 2 makes requests.
-use Rattle.pct_names.proofs.Names.{[], Bool, cond_wait_point, Event, false, join_point, List, point_kind, points, refl, sem_wait_point}
-use Rattle.pct_names.proofs.Names.{testcancel_point, true, waitpid_point, What, ℕ, ◌∷◌, ◌≡◌}
+use Rattle.pct_names.proofs.Names.{[], Bool, cond_timedwait_point, cond_wait_point, Event, false, join_point, List, point_kind, points}
+use Rattle.pct_names.proofs.Names.{refl, sem_timedwait_point, sem_wait_point, testcancel_point, true, waitpid_point, What, ℕ, ◌∷◌, ◌≡◌}
 use Rattle.pct_model.specs.declared.event.Caller.TheVariants as caller
 use Rattle.pct_model.specs.declared.event.What.TheVariants as what
 use Rattle.pct_laws.specs.CancelEvents.{is_asynchronous_last}
@@ -51,6 +51,13 @@ in_a_wait = event (what.Released 0) ∷ event (what.Called cond_wait_point) ∷ 
 
 abbrev waits : List Event
 waits = request ∷ in_a_wait
+
+-- the same in a wait with a time, before it expired and after that
+abbrev in_a_timed_wait : List Event
+in_a_timed_wait = event (what.Released 0) ∷ event (what.Called cond_timedwait_point) ∷ []
+
+abbrev after_its_time : List Event
+after_its_time = event (what.WaitExpired 1) ∷ in_a_timed_wait
 
 -- ---- a thread is canceled by a request
 
@@ -180,6 +187,40 @@ it_ends_in_a_wait_alone = refl
 with_its_mutex_owned : refused (event (what.EndingInWait 1 0) ∷ event (what.WaitCanceled 1) ∷ waits) ≡ true
 with_its_mutex_owned = refl
 
+-- ---- waits with a time
+
+canceled_in_time : keeps (event (what.EndingInWait 1 0) ∷ event (what.Acquired 0) ∷ event (what.WaitCanceled 1) ∷ request ∷ in_a_timed_wait) ≡ true
+canceled_in_time = refl
+
+-- a thread whose time expired may still be canceled, also by a request from before that
+canceled_after_its_time : keeps (event (what.EndingInWait 1 0) ∷ event (what.Acquired 0) ∷ event (what.WaitCanceled 1) ∷ request ∷ after_its_time) ≡ true
+canceled_after_its_time = refl
+
+requested_before_that : keeps (event (what.EndingInWait 1 0) ∷ event (what.Acquired 0) ∷ event (what.WaitCanceled 1) ∷ event (what.WaitExpired 1) ∷ request ∷ in_a_timed_wait) ≡ true
+requested_before_that = refl
+
+-- or it returns, with a request to act upon
+timed_out_with_a_request : keeps (event (what.Answer caller.CondTimedWait 4) ∷ event (what.Acquired 0) ∷ request ∷ after_its_time) ≡ true
+timed_out_with_a_request = refl
+
+without_a_request_it_is_not_left : refused (event (what.WaitCanceled 1) ∷ after_its_time) ≡ true
+without_a_request_it_is_not_left = refl
+
+a_wait_without_a_time_does_not_expire : refused (event (what.WaitExpired 1) ∷ in_a_wait) ≡ true
+a_wait_without_a_time_does_not_expire = refl
+
+only_a_wait_expires : refused (event (what.WaitExpired 1) ∷ []) ≡ true
+only_a_wait_expires = refl
+
+before_its_mutex_is_owned : refused (event (what.WaitExpired 1) ∷ event (what.Acquired 0) ∷ in_a_timed_wait) ≡ true
+before_its_mutex_is_owned = refl
+
+and_before_it_is_left : refused (event (what.WaitExpired 1) ∷ event (what.WaitCanceled 1) ∷ request ∷ in_a_timed_wait) ≡ true
+and_before_it_is_left = refl
+
+it_expires_once : refused (event (what.WaitExpired 1) ∷ after_its_time) ≡ true
+it_expires_once = refl
+
 -- ---- with a request to act upon
 
 -- without a request, with cancelability disabled, and by another thread, points are called
@@ -250,6 +291,20 @@ waited : keeps (event (what.Done cond_wait_point) ∷ event (what.Acquired 0) �
 unfolding points point_kind
 waited = refl
 
+-- sem_timedwait takes the semaphore or times out; pthread_cond_timedwait returns, or times out
+taken_in_time : keeps (event (what.Taken 0) ∷ event (what.Called sem_timedwait_point) ∷ []) ≡ true
+taken_in_time = refl
+
+not_taken_in_time : keeps (event (what.Answer caller.SemTimedWait 4) ∷ event (what.Called sem_timedwait_point) ∷ []) ≡ true
+not_taken_in_time = refl
+
+waited_in_time : keeps (event (what.Done cond_timedwait_point) ∷ event (what.Acquired 0) ∷ in_a_timed_wait) ≡ true
+unfolding points point_kind
+waited_in_time = refl
+
+timed_out : keeps (event (what.Answer caller.CondTimedWait 4) ∷ event (what.Acquired 0) ∷ after_its_time) ≡ true
+timed_out = refl
+
 -- a function that may be a cancellation point has no event of its call
 may_be_a_point : keeps (event (what.Done optional_point) ∷ []) ≡ true
 unfolding points point_kind
@@ -270,6 +325,16 @@ a_call_returns_once = refl
 sem_wait_is_called_before_a_take : refused (event (what.Taken 0) ∷ []) ≡ true
 sem_wait_is_called_before_a_take = refl
 
+sem_timedwait_is_called_before_it_times_out : refused (event (what.Answer caller.SemTimedWait 4) ∷ []) ≡ true
+sem_timedwait_is_called_before_it_times_out = refl
+
+-- the newest event of the thread is the call
+it_times_out_once : refused (event (what.Answer caller.SemTimedWait 4) ∷ event (what.Answer caller.SemTimedWait 4) ∷ event (what.Called sem_timedwait_point) ∷ []) ≡ true
+it_times_out_once = refl
+
+sem_wait_does_not_time_out : refused (event (what.Answer caller.SemTimedWait 4) ∷ event (what.Called sem_wait_point) ∷ []) ≡ true
+sem_wait_does_not_time_out = refl
+
 waitpid_is_called_before_a_reap : refused (event (what.Reaped 2 5) ∷ replica (what.ProcessEnded 5) ∷ fork ∷ []) ≡ true
 waitpid_is_called_before_a_reap = refl
 
@@ -279,12 +344,30 @@ pthread_cond_wait_returns_with_its_mutex = refl
 and_after_its_call : refused (event (what.Done cond_wait_point) ∷ event (what.Acquired 0) ∷ []) ≡ true
 and_after_its_call = refl
 
--- pthread_join, sem_wait and waitpid return by a join, a take and a reap alone
+pthread_cond_timedwait_returns_with_its_mutex : refused (event (what.Done cond_timedwait_point) ∷ in_a_timed_wait) ≡ true
+pthread_cond_timedwait_returns_with_its_mutex = refl
+
+without_an_error_only_in_time : refused (event (what.Done cond_timedwait_point) ∷ event (what.Acquired 0) ∷ after_its_time) ≡ true
+without_an_error_only_in_time = refl
+
+with_the_error_only_after_its_time : refused (event (what.Answer caller.CondTimedWait 4) ∷ event (what.Acquired 0) ∷ in_a_timed_wait) ≡ true
+with_the_error_only_after_its_time = refl
+
+and_with_its_mutex : refused (event (what.Answer caller.CondTimedWait 4) ∷ after_its_time) ≡ true
+and_with_its_mutex = refl
+
+and_after_a_wait : refused (event (what.Answer caller.CondTimedWait 4) ∷ event (what.Acquired 0) ∷ []) ≡ true
+and_after_a_wait = refl
+
+-- pthread_join, sem_wait, sem_timedwait and waitpid return by a join, a take, an error and a reap alone
 a_join_is_no_other_return : refused (event (what.Done join_point) ∷ event (what.Called join_point) ∷ []) ≡ true
 a_join_is_no_other_return = refl
 
 nor_is_a_take : refused (event (what.Done sem_wait_point) ∷ event (what.Called sem_wait_point) ∷ []) ≡ true
 nor_is_a_take = refl
+
+nor_is_one_in_time : refused (event (what.Done sem_timedwait_point) ∷ event (what.Called sem_timedwait_point) ∷ []) ≡ true
+nor_is_one_in_time = refl
 
 nor_is_a_reap : refused (event (what.Done waitpid_point) ∷ event (what.Called waitpid_point) ∷ []) ≡ true
 nor_is_a_reap = refl

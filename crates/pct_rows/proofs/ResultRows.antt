@@ -1,13 +1,14 @@
 -- The law of results: made steps that keep it, and made steps that do not. Each step that does not differs from one that does in one thing, and
 -- has the name of the sentence that it breaks.
-use Rattle.pct_names.proofs.Names.{◌<◌, [], and_parts, ap, ap₂, arith, Bool, codes, cond, false, false≢true, first_process, Frame}
-use Rattle.pct_names.proofs.Names.{is_empty, is_static, IsTrue, List, list_all, nat_eq, nat_lt, new_frame, new_shared, new_thread, None}
-use Rattle.pct_names.proofs.Names.{none-some, Option, option_map, Process, refl, same_Some, Script, slice_index, Some, Status, Stmt, suc}
-use Rattle.pct_names.proofs.Names.{sym, Thread, true, What, zero, ℕ, ◌∙◌, ◌∷◌, ◌≡◌}
+use Rattle.pct_names.proofs.Names.{◌<◌, [], and_parts, ap, ap₂, arith, Bool, codes, cond, false, false≢true, first_process, Frame, is_empty}
+use Rattle.pct_names.proofs.Names.{is_static, IsTrue, List, list_all, nat_eq, nat_lt, new_frame, new_shared, new_thread, None, none-some}
+use Rattle.pct_names.proofs.Names.{Option, option_map, Process, refl, same_Some, Script, SemDecl, slice_index, Some, Status, Stmt, suc, sym}
+use Rattle.pct_names.proofs.Names.{Thread, true, What, zero, ℕ, ◌∙◌, ◌∷◌, ◌≡◌}
 use Rattle.std.proofs.Common.{ne_eqb}
 use Rattle.std.proofs.lemmas.Bool.{ltb-true, true≢false}
 use Rattle.pct_model.specs.declared.event.Caller.TheVariants as caller
 use Rattle.pct_model.specs.declared.event.What.TheVariants as what
+use Rattle.pct_model.specs.declared.state.Cause.TheVariants as cause
 use Rattle.pct_model.specs.declared.state.FrameKind.TheVariants as kind
 use Rattle.pct_model.specs.declared.state.Phase.TheVariants as phase
 use Rattle.pct_model.specs.declared.state.State.TheVariants as state
@@ -15,12 +16,12 @@ use Rattle.pct_model.specs.declared.state.Status.TheVariants as status
 use Rattle.pct_model.specs.declared.statement.Dest.TheVariants as destination
 use Rattle.pct_model.specs.declared.statement.Operand.TheVariants as operand
 use Rattle.pct_model.specs.declared.statement.Stmt.TheVariants as statement
-use Rattle.pct_laws.specs.ResultLaw.{KeepsAnswer, Store, after_stores, local_on_top, stored, StoresResults}
+use Rattle.pct_laws.specs.ResultLaw.{Store, after_stores, local_on_top, stored, StoresResults}
 use Rattle.pct_laws.specs.ThreadSteps.{ThreadStep}
 use Rattle.pct_rows.proofs.ExampleScripts.{forking}
 use Rattle.pct_rows.proofs.OnLiterals.{checks_on_literals, runs_on_literals}
 
--- ---- a script with the global g, whose `main` has the locals x and y
+-- ---- a script with the global g, a mutex, a condition variable and a semaphore, whose `main` has the locals x and y
 
 abbrev statements : List Stmt
 statements =
@@ -35,14 +36,19 @@ statements =
     ∷ statement.Add (destination.Global 0) (operand.Num 4294967295)
     ∷ statement.GetSpecific (destination.Global 0) (operand.Num 1)
     ∷ statement.Emit (operand.Num 5)
+    ∷ statement.CondTimedWait (destination.Local 0) 0 0
+    ∷ statement.SemTimedWait (destination.Global 0) 0
     ∷ statement.End ∷ []
 
-passes : IsTrue (is_static (record { globals = codes "g" ∷ []; mutexes = []; conds = []; sems = []; funcs = record { name = codes "main"; locals = codes "x" ∷ codes "y" ∷ []; body = statements } ∷ [] }))
+abbrev semaphores : List SemDecl
+semaphores = record { name = codes "s"; count = 0 } ∷ []
+
+passes : IsTrue (is_static (record { globals = codes "g" ∷ []; mutexes = codes "m" ∷ []; conds = codes "c" ∷ []; sems = semaphores; funcs = record { name = codes "main"; locals = codes "x" ∷ codes "y" ∷ []; body = statements } ∷ [] }))
 unfolding checks_on_literals
 passes = refl
 
 abbrev script : Script
-script = record { globals = codes "g" ∷ []; mutexes = []; conds = []; sems = []; funcs = record { name = codes "main"; locals = codes "x" ∷ codes "y" ∷ []; body = statements } ∷ []; passes_checks = passes }
+script = record { globals = codes "g" ∷ []; mutexes = codes "m" ∷ []; conds = codes "c" ∷ []; sems = semaphores; funcs = record { name = codes "main"; locals = codes "x" ∷ codes "y" ∷ []; body = statements } ∷ []; passes_checks = passes }
 
 -- ---- steps
 
@@ -221,6 +227,52 @@ its_call_stores_nothing : StoresResults script (step_to (at 5 status.Running 7 7
 unfolding runs_on_literals
 its_call_stores_nothing law = let n : ◌≡◌ {A = ℕ} 0 7 = ap (first_local 0) (law.kept refl) in omega (arith, n)
 
+-- ---- pthread_cond_timedwait, sem_timedwait
+
+a_wait_that_times_out_stores_its_error : StoresResults script (step 11 (status.Reacquire 0 0 cause.TimedOut) (what.Acquired 0 ∷ what.Answer caller.CondTimedWait 4 ∷ []) 7 4 7)
+unfolding runs_on_literals
+a_wait_that_times_out_stores_its_error = keeps 11 (status.Reacquire 0 0 cause.TimedOut) (what.Acquired 0 ∷ what.Answer caller.CondTimedWait 4 ∷ []) 7 4 7 refl (λ none. absurd (false≢true none)) refl refl refl
+
+and_not_0_then : StoresResults script (step 11 (status.Reacquire 0 0 cause.TimedOut) (what.Acquired 0 ∷ what.Answer caller.CondTimedWait 4 ∷ []) 7 0 7) → ⊥
+unfolding runs_on_literals
+and_not_0_then law = let n : ◌≡◌ {A = ℕ} 0 4 = no_local (law.locals refl 0) in omega (arith, n)
+
+one_that_returns_in_time_stores_0 : StoresResults script (step 11 (status.Reacquire 0 0 cause.Signalled) (what.Acquired 0 ∷ what.Done 20 ∷ []) 7 0 7)
+unfolding runs_on_literals
+one_that_returns_in_time_stores_0 = keeps 11 (status.Reacquire 0 0 cause.Signalled) (what.Acquired 0 ∷ what.Done 20 ∷ []) 7 0 7 refl (λ none. absurd (false≢true none)) refl refl refl
+
+and_no_error : StoresResults script (step 11 (status.Reacquire 0 0 cause.Signalled) (what.Acquired 0 ∷ what.Done 20 ∷ []) 7 4 7) → ⊥
+unfolding runs_on_literals
+and_no_error law = let n : ◌≡◌ {A = ℕ} 4 0 = no_local (law.locals refl 0) in omega (arith, n)
+
+nor_the_old_value : StoresResults script (step 11 (status.Reacquire 0 0 cause.Broadcast) (what.Acquired 0 ∷ what.Done 20 ∷ []) 7 7 7) → ⊥
+unfolding runs_on_literals
+nor_the_old_value law = let n : ◌≡◌ {A = ℕ} 7 0 = no_local (law.locals refl 0) in omega (arith, n)
+
+-- as the time expires nothing is stored yet
+abbrev expires : ℕ → ThreadStep
+expires x = step_to (at 11 (status.Waiting 0 0) 7 7) (at 11 (status.Reacquire 0 0 cause.TimedOut) x 7) (what.WaitExpired 0 ∷ []) 7
+
+it_stores_nothing_as_its_time_expires : StoresResults script (expires 4) → ⊥
+unfolding runs_on_literals
+it_stores_nothing_as_its_time_expires law = let n : ◌≡◌ {A = ℕ} 4 7 = ap (first_local 0) (law.kept refl) in omega (arith, n)
+
+a_semaphore_that_is_taken_stores_0 : StoresResults script (step 12 (status.InSem 0) (what.Taken 0 ∷ []) 0 7 7)
+unfolding runs_on_literals
+a_semaphore_that_is_taken_stores_0 = keeps 12 (status.InSem 0) (what.Taken 0 ∷ []) 0 7 7 refl (λ none. absurd (false≢true none)) refl refl refl
+
+and_no_error_number : StoresResults script (step 12 (status.InSem 0) (what.Taken 0 ∷ []) 4 7 7) → ⊥
+unfolding runs_on_literals
+and_no_error_number law = let n : ◌≡◌ {A = ℕ} 4 0 = law.globals 0 in omega (arith, n)
+
+one_that_times_out_stores_its_error : StoresResults script (step 12 (status.InSem 0) (what.Answer caller.SemTimedWait 4 ∷ []) 4 7 7)
+unfolding runs_on_literals
+one_that_times_out_stores_its_error = keeps 12 (status.InSem 0) (what.Answer caller.SemTimedWait 4 ∷ []) 4 7 7 refl (λ none. absurd (false≢true none)) refl refl refl
+
+and_never_0 : StoresResults script (step 12 (status.InSem 0) (what.Answer caller.SemTimedWait 4 ∷ []) 0 7 7) → ⊥
+unfolding runs_on_literals
+and_never_0 law = let n : ◌≡◌ {A = ℕ} 0 4 = law.globals 0 in omega (arith, n)
+
 -- ---- pthread_key_create, pthread_getspecific
 
 the_key_is_stored : StoresResults script (step 6 status.Running (what.KeyMade 2 ∷ []) 2 7 7)
@@ -260,33 +312,6 @@ where_there_is_no_child_fork_fails = keeps 7 (forking phase.Parent 0 0 0) [] 7 1
 and_does_not_succeed : StoresResults script (step 7 (forking phase.Parent 0 0 0) [] 7 0 7) → ⊥
 unfolding runs_on_literals
 and_does_not_succeed law = let n : ◌≡◌ {A = ℕ} 0 1 = no_local (law.locals refl 0) in omega (arith, n)
-
--- ---- the answer of fork, until it returns
-
--- a step of a thread in fork
-abbrev in_fork : Status → List What → Status → ThreadStep
-in_fork before events after = step_to (at 7 before 7 7) (at 7 after 7 7) events 7
-
-the_event_gives_the_answer : KeepsAnswer script (in_fork (forking phase.Prepare 0 0 0) (what.Forked 2 ∷ []) (forking phase.Parent 0 0 2))
-the_event_gives_the_answer = record { given = λ n said. said; kept = λ quiet other n m before after. absurd (none-some 2 (sym quiet)) }
-
-and_no_other_one : KeepsAnswer script (in_fork (forking phase.Prepare 0 0 0) (what.Forked 2 ∷ []) (forking phase.Parent 0 0 3)) → ⊥
-and_no_other_one law = let n : ◌≡◌ {A = ℕ} 3 2 = same_Some 3 2 (law.given 2 refl) in omega (arith, n)
-
-where_no_process_is_made_it_is_0 : KeepsAnswer script (in_fork (forking phase.Prepare 0 0 0) (what.Answer caller.Fork 1 ∷ []) (forking phase.Parent 0 0 2)) → ⊥
-where_no_process_is_made_it_is_0 law = let n : ◌≡◌ {A = ℕ} 2 0 = same_Some 2 0 (law.given 0 refl) in omega (arith, n)
-
--- the parent handler of the only registration returns, or is called
-abbrev in_handler : Thread
-in_handler = record (at 10 status.Running 7 7) { kept = Some (record { phase = phase.Parent; next = 1; length = 1; answer = 2 }) }
-
-no_handler_changes_it : KeepsAnswer script (step_to in_handler (at 7 (forking phase.Parent 1 1 0) 7 7) [] 7) → ⊥
-unfolding runs_on_literals
-no_handler_changes_it law = let n : ◌≡◌ {A = ℕ} 2 0 = law.kept refl refl 2 0 refl refl in omega (arith, n)
-
-nor_its_call : KeepsAnswer script (step_to (at 7 (forking phase.Parent 0 1 0) 7 7) in_handler (what.ParentRun 0 ∷ []) 7) → ⊥
-unfolding runs_on_literals
-nor_its_call law = let n : ◌≡◌ {A = ℕ} 0 2 = law.kept refl refl 0 2 refl refl in omega (arith, n)
 
 -- ---- the functions that call the one which executes a statement
 

@@ -10,7 +10,7 @@ use Rattle.pct_model.specs.declared.state.FrameKind.TheVariants as kind
 use Rattle.pct_model.specs.declared.state.Status.TheVariants as status
 use Rattle.pct_model.specs.declared.statement.Dest.TheVariants as destination
 use Rattle.pct_model.specs.declared.statement.Stmt.TheVariants as statement
-use Rattle.pct_laws.specs.SharedLaw.{takes_above_0, ChangesShared}
+use Rattle.pct_laws.specs.SharedLaw.{takes_above_0, times_out_at_0, ChangesShared}
 use Rattle.pct_laws.specs.ThreadSteps.{ThreadStep}
 
 -- ---- steps of thread 2
@@ -52,6 +52,15 @@ by_one law = let n : ◌≡◌ {A = ℕ} 5 4 = ap (λ (counts : List ℕ). slice
 a_wait_takes_one : Step (what.Taken 0 ∷ []) (status.InSem 0) (statement.SemWait 0) (shared (5 ∷ 0 ∷ []) (3 ∷ []) (4 ∷ [])) → ⊥
 a_wait_takes_one law = let n : ◌≡◌ {A = ℕ} 3 2 = ap (λ (counts : List ℕ). slice_index counts 0) law.counts in omega (arith, n)
 
+one_that_times_out_takes_none : Step (what.Answer caller.SemTimedWait 4 ∷ []) (status.InSem 0) (statement.SemTimedWait destination.Drop 0) before
+one_that_times_out_takes_none = record { owners = refl; counts = refl; exit_functions = refl; fork_handlers = refl; exit_value = refl; restricted = refl }
+
+not_even_one : Step (what.Answer caller.SemTimedWait 4 ∷ []) (status.InSem 0) (statement.SemTimedWait destination.Drop 0) (shared (5 ∷ 0 ∷ []) (2 ∷ []) (4 ∷ [])) → ⊥
+not_even_one law = let n : ◌≡◌ {A = ℕ} 2 3 = ap (λ (counts : List ℕ). slice_index counts 0) law.counts in omega (arith, n)
+
+an_expired_wait_owns_nothing_yet : Step (what.WaitExpired 0 ∷ []) (status.Waiting 0 1) (statement.CondTimedWait destination.Drop 0 1) (shared (5 ∷ 2 ∷ []) (3 ∷ []) (4 ∷ [])) → ⊥
+an_expired_wait_owns_nothing_yet law = let n : ◌≡◌ {A = ℕ} 2 0 = ap (λ (owners : List ℕ). slice_index owners 1) law.owners in omega (arith, n)
+
 -- ---- what is taken
 
 -- a step of thread 2 with these events, before which the semaphores have these counts. The law asks nothing of what is there after it
@@ -78,6 +87,16 @@ nor_one_that_is_not_there = refl
 
 a_post_begins_at_any_count : takes_above_0 (takes (1 ∷ 0 ∷ []) (what.Posted 1 ∷ [])) ≡ true
 a_post_begins_at_any_count = refl
+
+-- thread 2 waits for this semaphore before the step, in which the time of its wait expires
+abbrev times_out : List ℕ → ℕ → ThreadStep
+times_out counts sem = record (takes counts (what.Answer caller.SemTimedWait 4 ∷ [])) { before = record (new_thread 2 false (new_frame 0 0 kind.Start)) { status = status.InSem sem } }
+
+a_wait_times_out_at_0 : times_out_at_0 (times_out (1 ∷ 0 ∷ []) 1) ≡ true
+a_wait_times_out_at_0 = refl
+
+and_not_while_it_could_take_one : times_out_at_0 (times_out (1 ∷ 0 ∷ []) 0) ≡ false
+and_not_while_it_could_take_one = refl
 
 -- ---- what is registered
 

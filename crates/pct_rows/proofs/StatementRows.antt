@@ -1,9 +1,9 @@
 -- The law of statements: statements with events that the law accepts, and events that it refuses, each with the name of the sentence that it
 -- breaks; calls with what they suspend their thread for, and the events by which it goes on; and made steps.
-use Rattle.pct_names.proofs.Names.{[], Bool, codes, cond_wait_point, false, first_process, Frame, FrameKind, is_static, IsTrue}
-use Rattle.pct_names.proofs.Names.{join_point, List, MAX_FORK_HANDLERS, MAX_KEYS, new_frame, new_shared, new_thread, None, Operand}
-use Rattle.pct_names.proofs.Names.{Process, refl, replicate, Script, sem_wait_point, SharedState, Some, StatementIn, Status, Stmt}
-use Rattle.pct_names.proofs.Names.{testcancel_point, Thread, true, waitpid_point, What, ℕ, ◌∷◌, ◌≡◌}
+use Rattle.pct_names.proofs.Names.{[], Bool, codes, cond_timedwait_point, cond_wait_point, false, first_process, Frame, FrameKind}
+use Rattle.pct_names.proofs.Names.{is_static, IsTrue, join_point, List, MAX_FORK_HANDLERS, MAX_KEYS, new_frame, new_shared, new_thread}
+use Rattle.pct_names.proofs.Names.{None, Operand, Process, refl, replicate, Script, sem_timedwait_point, sem_wait_point, SharedState, Some}
+use Rattle.pct_names.proofs.Names.{StatementIn, Status, Stmt, testcancel_point, Thread, true, waitpid_point, What, ℕ, ◌∷◌, ◌≡◌}
 use Rattle.pct_model.specs.declared.event.Caller.TheVariants as caller
 use Rattle.pct_model.specs.declared.event.What.TheVariants as what
 use Rattle.pct_model.specs.declared.state.Cause.TheVariants as cause
@@ -69,6 +69,13 @@ says_full s events = asked 3 statements full threads thread (frame kind.Call) s 
 -- the first local
 abbrev x : Operand
 x = operand.Local 0
+
+-- waits with a time, on condition variable 0 with mutex 2 and for semaphore 2
+abbrev timed_wait : Stmt
+timed_wait = statement.CondTimedWait destination.Drop 0 2
+
+abbrev timed_sem_wait : Stmt
+timed_sem_wait = statement.SemTimedWait destination.Drop 2
 
 -- ---- the script language
 
@@ -309,44 +316,57 @@ a_wait_releases_its_mutex = refl
 and_no_other_mutex : says (statement.CondWait 0 2) (what.Called cond_wait_point ∷ what.Released 0 ∷ []) ≡ false
 and_no_other_mutex = refl
 
+waits_with_a_time : says timed_wait (what.Called cond_timedwait_point ∷ what.Released 2 ∷ []) ≡ true
+waits_with_a_time = refl
+
+by_its_own_name : says timed_wait (what.Called cond_wait_point ∷ what.Released 2 ∷ []) ≡ false
+by_its_own_name = refl
+
+as_one_without_has : says (statement.CondWait 0 2) (what.Called cond_timedwait_point ∷ what.Released 2 ∷ []) ≡ false
+as_one_without_has = refl
+
+it_releases_its_mutex : says timed_wait (what.Called cond_timedwait_point ∷ []) ≡ false
+it_releases_its_mutex = refl
+
+and_no_other_one : says timed_wait (what.Called cond_timedwait_point ∷ what.Released 0 ∷ []) ≡ false
+and_no_other_one = refl
+
+its_time_does_not_expire_at_its_call : says timed_wait (what.Answer caller.CondTimedWait 4 ∷ []) ≡ false
+its_time_does_not_expire_at_its_call = refl
+
 signals : says (statement.Signal 0) (what.Signalled 0 3 ∷ []) ≡ true
 unfolding runs_on_literals
 signals = refl
 
-a_signal_wakes_somebody_who_waits : says (statement.Signal 0) (what.Signalled 0 0 ∷ []) ≡ false
+to_no_other_condition_variable : says (statement.Signal 0) (what.Signalled 1 3 ∷ []) ≡ false
 unfolding runs_on_literals
-a_signal_wakes_somebody_who_waits = refl
-
-and_nobody_who_does_not_wait : says (statement.Signal 0) (what.Signalled 0 1 ∷ []) ≡ false
-unfolding runs_on_literals
-and_nobody_who_does_not_wait = refl
-
-nor_on_another_condition_variable : says (statement.Signal 1) (what.Signalled 1 3 ∷ []) ≡ false
-unfolding runs_on_literals
-nor_on_another_condition_variable = refl
-
--- a thread that its process did not inherit waits no more
-nor_one_that_is_not_inherited : asked 4 statements shared (record (new_thread 3 false (frame kind.Start)) { status = status.Waiting 0 2; gone = true } ∷ []) thread (frame kind.Call) (statement.Signal 0) (what.Signalled 0 3 ∷ []) ≡ false
-unfolding runs_on_literals
-nor_one_that_is_not_inherited = refl
-
-a_signal_is_lost_if_nobody_waits : says (statement.Signal 1) (what.Signalled 1 0 ∷ []) ≡ true
-unfolding runs_on_literals
-a_signal_is_lost_if_nobody_waits = refl
+to_no_other_condition_variable = refl
 
 broadcasts : says (statement.Broadcast 0) (what.BroadcastTo 0 1 ∷ []) ≡ true
 unfolding runs_on_literals
 broadcasts = refl
 
-a_broadcast_counts_those_who_wait : says (statement.Broadcast 0) (what.BroadcastTo 0 2 ∷ []) ≡ false
+and_broadcasts_to_no_other : says (statement.Broadcast 0) (what.BroadcastTo 1 1 ∷ []) ≡ false
 unfolding runs_on_literals
-a_broadcast_counts_those_who_wait = refl
+and_broadcasts_to_no_other = refl
 
 calls_sem_wait : says (statement.SemWait 2) (what.Called sem_wait_point ∷ []) ≡ true
 calls_sem_wait = refl
 
 it_takes_nothing_yet : says (statement.SemWait 2) (what.Taken 2 ∷ []) ≡ false
 it_takes_nothing_yet = refl
+
+calls_sem_timedwait : says timed_sem_wait (what.Called sem_timedwait_point ∷ []) ≡ true
+calls_sem_timedwait = refl
+
+and_not_sem_wait : says timed_sem_wait (what.Called sem_wait_point ∷ []) ≡ false
+and_not_sem_wait = refl
+
+it_takes_none_yet : says timed_sem_wait (what.Taken 2 ∷ []) ≡ false
+it_takes_none_yet = refl
+
+nor_times_out : says timed_sem_wait (what.Answer caller.SemTimedWait 4 ∷ []) ≡ false
+nor_times_out = refl
 
 posts : says (statement.SemPost 2) (what.Posted 2 ∷ []) ≡ true
 posts = refl
@@ -439,6 +459,24 @@ a_wait_is_on_its_condition_variable = refl
 with_its_mutex : suspends (statement.CondWait 0 2) (status.Waiting 0 1) ≡ false
 with_its_mutex = refl
 
+in_a_wait_with_a_time : suspends timed_wait (status.Waiting 0 2) ≡ true
+in_a_wait_with_a_time = refl
+
+it_is_on_its_condition_variable : suspends timed_wait (status.Waiting 1 2) ≡ false
+it_is_on_its_condition_variable = refl
+
+and_with_its_mutex : suspends timed_wait (status.Waiting 0 1) ≡ false
+and_with_its_mutex = refl
+
+it_does_not_expire_at_once : suspends timed_wait (status.Reacquire 0 2 cause.TimedOut) ≡ false
+it_does_not_expire_at_once = refl
+
+in_a_sem_wait_with_a_time : suspends timed_sem_wait (status.InSem 2) ≡ true
+in_a_sem_wait_with_a_time = refl
+
+for_its_own_semaphore : suspends timed_sem_wait (status.InSem 1) ≡ false
+for_its_own_semaphore = refl
+
 a_sem_wait_is_on_its_semaphore : suspends (statement.SemWait 2) (status.InSem 1) ≡ false
 a_sem_wait_is_on_its_semaphore = refl
 
@@ -485,6 +523,15 @@ another_semaphore_is_taken = refl
 a_sem_wait_takes_nothing : goes_on_by (status.InSem 2) [] ≡ false
 a_sem_wait_takes_nothing = refl
 
+a_sem_wait_times_out : goes_on_by (status.InSem 2) (what.Answer caller.SemTimedWait 4 ∷ []) ≡ true
+a_sem_wait_times_out = refl
+
+by_another_error : goes_on_by (status.InSem 2) (what.Answer caller.SemTimedWait 3 ∷ []) ≡ false
+by_another_error = refl
+
+as_another_call : goes_on_by (status.InSem 2) (what.Answer caller.CondTimedWait 4 ∷ []) ≡ false
+as_another_call = refl
+
 another_process_is_reaped : goes_on_by (status.InWaitPid 2) (what.Reaped 3 0 ∷ []) ≡ false
 another_process_is_reaped = refl
 
@@ -508,6 +555,54 @@ another_mutex_is_acquired = refl
 
 a_wait_returns_without_its_mutex : goes_on_by (status.Reacquire 0 2 cause.Signalled) (what.Done cond_wait_point ∷ []) ≡ false
 a_wait_returns_without_its_mutex = refl
+
+a_wait_with_a_time_returns : goes_on_by (status.Reacquire 0 2 cause.Broadcast) (what.Acquired 2 ∷ what.Done cond_timedwait_point ∷ []) ≡ true
+a_wait_with_a_time_returns = refl
+
+its_time_expires : goes_on_by (status.Waiting 0 2) (what.WaitExpired 0 ∷ []) ≡ true
+its_time_expires = refl
+
+the_time_of_another_wait_expires : goes_on_by (status.Waiting 0 2) (what.WaitExpired 1 ∷ []) ≡ false
+the_time_of_another_wait_expires = refl
+
+it_expires_twice : goes_on_by (status.Reacquire 0 2 cause.TimedOut) (what.WaitExpired 0 ∷ []) ≡ false
+it_expires_twice = refl
+
+it_expires_after_a_signal : goes_on_by (status.Reacquire 0 2 cause.Signalled) (what.WaitExpired 0 ∷ []) ≡ false
+it_expires_after_a_signal = refl
+
+it_times_out : goes_on_by (status.Reacquire 0 2 cause.TimedOut) (what.Acquired 2 ∷ what.Answer caller.CondTimedWait 4 ∷ []) ≡ true
+it_times_out = refl
+
+it_times_out_with_another_error : goes_on_by (status.Reacquire 0 2 cause.TimedOut) (what.Acquired 2 ∷ what.Answer caller.CondTimedWait 3 ∷ []) ≡ false
+it_times_out_with_another_error = refl
+
+it_times_out_with_another_mutex : goes_on_by (status.Reacquire 0 2 cause.TimedOut) (what.Acquired 1 ∷ what.Answer caller.CondTimedWait 4 ∷ []) ≡ false
+it_times_out_with_another_mutex = refl
+
+it_times_out_without_its_mutex : goes_on_by (status.Reacquire 0 2 cause.TimedOut) (what.Answer caller.CondTimedWait 4 ∷ []) ≡ false
+it_times_out_without_its_mutex = refl
+
+it_times_out_as_it_expires : goes_on_by (status.Waiting 0 2) (what.WaitExpired 0 ∷ what.Answer caller.CondTimedWait 4 ∷ []) ≡ false
+it_times_out_as_it_expires = refl
+
+its_time_expired_and_it_returns_0 : goes_on_by (status.Reacquire 0 2 cause.TimedOut) (what.Acquired 2 ∷ what.Done cond_timedwait_point ∷ []) ≡ false
+its_time_expired_and_it_returns_0 = refl
+
+a_signalled_wait_times_out : goes_on_by (status.Reacquire 0 2 cause.Signalled) (what.Acquired 2 ∷ what.Answer caller.CondTimedWait 4 ∷ []) ≡ false
+a_signalled_wait_times_out = refl
+
+a_wait_is_left_after_its_time : goes_on_by (status.Reacquire 0 2 cause.TimedOut) (what.WaitCanceled 0 ∷ []) ≡ true
+a_wait_is_left_after_its_time = refl
+
+and_hands_on_a_signal : goes_on_by (status.Reacquire 0 2 cause.TimedOut) (what.WaitCanceled 0 ∷ what.HandedOn 0 3 ∷ []) ≡ false
+and_hands_on_a_signal = refl
+
+it_is_another_one : goes_on_by (status.Reacquire 0 2 cause.TimedOut) (what.WaitCanceled 1 ∷ []) ≡ false
+it_is_another_one = refl
+
+it_ends_without_a_request : goes_on_by (status.Reacquire 0 2 cause.TimedOut) (what.Acquired 2 ∷ what.EndingInWait 0 2 ∷ []) ≡ false
+it_ends_without_a_request = refl
 
 another_wait_is_left : goes_on_by (status.Waiting 0 2) (what.WaitCanceled 1 ∷ []) ≡ false
 another_wait_is_left = refl

@@ -1,19 +1,23 @@
 -- The choices and transitions of mutexes, condition variables and semaphores, by status: each cause, with the mutex free and owned, with a
 -- request and without; and states that no run reaches.
-use Rattle.pct_names.proofs.Names.{[], acts, acts_on_request, after_transition, Alt, Asynchronous, broadcasts, Cause, choices_of, Disable}
-use Rattle.pct_names.proofs.Names.{environment_of, flat_map, goes_on, List, map, new_shared, no_change, None, posts, refl, SharedState}
-use Rattle.pct_names.proofs.Names.{Some, Status, Thread, Transition, true, ℕ, ◌∷◌, ◌≡◌}
+use Rattle.pct_names.proofs.Names.{[], acts, acts_on_request, after_transition, Alt, Asynchronous, broadcasts, Cause, choices_at}
+use Rattle.pct_names.proofs.Names.{choices_of, Disable, ends_sem_wait, environment_of, expires, flat_map, Format, goes_on, List, map}
+use Rattle.pct_names.proofs.Names.{new_shared, no_change, NextStatement, None, posts, reacquires, refl, SharedState, Some, StatementIn}
+use Rattle.pct_names.proofs.Names.{Status, Thread, Transition, true, ℕ, ◌∷◌, ◌≡◌}
+use Rattle.pct_model.specs.declared.event.Caller.TheVariants as caller
 use Rattle.pct_model.specs.declared.event.What.TheVariants as what
 use Rattle.pct_model.specs.declared.schedule.Alt.TheVariants as alt
+use Rattle.pct_model.specs.declared.schedule.Format.TheVariants as format
 use Rattle.pct_model.specs.declared.state.Cause.TheVariants as cause
 use Rattle.pct_model.specs.declared.state.Status.TheVariants as status
+use Rattle.pct_model.specs.declared.statement.Dest.TheVariants as destination
 use Rattle.pct_model.specs.declared.statement.Stmt.TheVariants as statement
 use Rattle.pct_model.specs.declared.transition.NamedAction.TheVariants as named_action
 use Rattle.pct_model.specs.declared.transition.OwnAction.TheVariants as own_action
 use Rattle.pct_model.specs.declared.transition.SharedAction.TheVariants as shared_action
 use Rattle.pct_rows.proofs.OnLiterals.{runs_on_literals}
 use Rattle.pct_rows.proofs.ExampleScripts.{smallest}
-use Rattle.pct_rows.proofs.ChoiceRows.{config, ready, in_status, process, state_of, nobody, choices_before}
+use Rattle.pct_rows.proofs.ChoiceRows.{config, start, ready, in_status, process, state_of, nobody, choices_before}
 
 -- mutex 0 has this owner; semaphore 0 has the count 0, semaphore 1 the count 1
 abbrev shared : ℕ → SharedState
@@ -60,6 +64,55 @@ suspended : map (λ s. choices waiters s 0) (status.Waiting 1 0 ∷ status.InSem
 unfolding runs_on_literals
 suspended = refl
 
+-- ---- choices in waits with a time
+
+-- a wait on condition variable 1 with mutex 0, and one for a semaphore, with a time and without one
+abbrev timed_wait : NextStatement
+timed_wait = StatementIn start (statement.CondTimedWait (destination.Local 3) 1 0)
+
+abbrev untimed_wait : NextStatement
+untimed_wait = StatementIn start (statement.CondWait 1 0)
+
+abbrev timed_sem_wait : ℕ → NextStatement
+timed_sem_wait s = StatementIn start (statement.SemTimedWait (destination.Local 3) s)
+
+abbrev untimed_sem_wait : ℕ → NextStatement
+untimed_sem_wait s = StatementIn start (statement.SemWait s)
+
+-- the choices of thread 1 in a wait, among the threads that wait, where mutex 0 has this owner, in a run with texts of a format: without a
+-- request, with one, and with one while cancelability is disabled
+abbrev choices_in : Format → ℕ → NextStatement → Status → List (List Alt)
+choices_in f owner next s = map (λ t. choices_at [] (shared owner) t (environment_of (record config { format = f }) (state_of []) (process 1 waiters) 1) next s) (in_status 1 s ∷ record (in_status 1 s) { pending = true } ∷ record (in_status 1 s) { pending = true; state = Disable } ∷ [])
+
+-- the time of a wait on a condition variable may expire at any moment, in format 2 alone; then it is before `act`
+expires_in_format_2 : map (λ f. choices_in f 0 timed_wait (status.Waiting 1 0)) (format.Two ∷ format.One ∷ []) ≡ ((alt.Expire ∷ []) ∷ (alt.Expire ∷ alt.Act 0 ∷ []) ∷ (alt.Expire ∷ []) ∷ []) ∷ ([] ∷ (alt.Act 0 ∷ []) ∷ [] ∷ []) ∷ []
+unfolding runs_on_literals
+expires_in_format_2 = refl
+
+-- at a count of 0 that of a wait for a semaphore may; at a greater one the thread goes on
+expires_at_0 : map (λ s. choices_in format.Two 0 (timed_sem_wait s) (status.InSem s)) (0 ∷ 1 ∷ []) ≡ ((alt.Expire ∷ []) ∷ (alt.Expire ∷ alt.Act 0 ∷ []) ∷ (alt.Expire ∷ []) ∷ []) ∷ ((alt.Go ∷ []) ∷ (alt.Go ∷ alt.Act 0 ∷ []) ∷ (alt.Go ∷ []) ∷ []) ∷ []
+unfolding runs_on_literals
+expires_at_0 = refl
+
+not_in_format_1 : map (λ s. choices_in format.One 0 (timed_sem_wait s) (status.InSem s)) (0 ∷ 1 ∷ []) ≡ ([] ∷ (alt.Act 0 ∷ []) ∷ [] ∷ []) ∷ ((alt.Go ∷ []) ∷ (alt.Go ∷ alt.Act 0 ∷ []) ∷ (alt.Go ∷ []) ∷ []) ∷ []
+unfolding runs_on_literals
+not_in_format_1 = refl
+
+-- a wait without a time does not expire
+without_a_time : choices_in format.Two 0 untimed_wait (status.Waiting 1 0) ∷ choices_in format.Two 0 (untimed_sem_wait 0) (status.InSem 0) ∷ [] ≡ ([] ∷ (alt.Act 0 ∷ []) ∷ [] ∷ []) ∷ ([] ∷ (alt.Act 0 ∷ []) ∷ [] ∷ []) ∷ []
+unfolding runs_on_literals
+without_a_time = refl
+
+-- a thread whose time expired goes on once the mutex has no owner; it expires once, and hands no signal on
+after_its_time : map (λ owner. choices_in format.Two owner timed_wait (status.Reacquire 1 0 cause.TimedOut)) (0 ∷ 2 ∷ []) ≡ ((alt.Go ∷ []) ∷ (alt.Go ∷ alt.Act 0 ∷ []) ∷ (alt.Go ∷ []) ∷ []) ∷ ([] ∷ (alt.Act 0 ∷ []) ∷ [] ∷ []) ∷ []
+unfolding runs_on_literals
+after_its_time = refl
+
+-- neither does one that a signal unblocked expire
+after_a_signal : map (λ owner. choices_in format.Two owner timed_wait (status.Reacquire 1 0 cause.Signalled)) (0 ∷ 2 ∷ []) ≡ ((alt.Go ∷ []) ∷ (alt.Go ∷ alt.Act 6 ∷ alt.Act 3 ∷ []) ∷ (alt.Go ∷ []) ∷ []) ∷ ([] ∷ (alt.Act 6 ∷ alt.Act 3 ∷ []) ∷ [] ∷ []) ∷ []
+unfolding runs_on_literals
+after_a_signal = refl
+
 -- ---- choices of running threads
 
 -- the choices of a thread at pthread_mutex_lock of mutex 0: without an owner, owned by the thread itself, and by another one
@@ -77,7 +130,7 @@ unfolding runs_on_literals
 asynchronous_at_a_lock = refl
 
 -- a signal unblocks one of the threads that wait on its condition variable
-at_a_signal : map (λ c. choices_before (shared 0) (ready 1) (environment_of 4 (state_of []) (process 1 waiters) 1) (statement.Signal c)) (1 ∷ 2 ∷ 3 ∷ []) ≡ (alt.Pick 6 ∷ alt.Pick 3 ∷ []) ∷ (alt.Pick 4 ∷ []) ∷ (alt.Go ∷ []) ∷ []
+at_a_signal : map (λ c. choices_before (shared 0) (ready 1) (environment_of config (state_of []) (process 1 waiters) 1) (statement.Signal c)) (1 ∷ 2 ∷ 3 ∷ []) ≡ (alt.Pick 6 ∷ alt.Pick 3 ∷ []) ∷ (alt.Pick 4 ∷ []) ∷ (alt.Go ∷ []) ∷ []
 unfolding runs_on_literals
 at_a_signal = refl
 
@@ -88,9 +141,27 @@ abbrev left : Transition
 left = record (acts (what.WaitCanceled 1 ∷ [])) { own = Some (own_action.SetStatus (status.Reacquire 1 0 cause.Canceled)) }
 
 -- a thread that acts upon a request in a wait hands on a signal, if a signal unblocked it
-acts_in_a_wait : map (acts_on_request 3) (status.Waiting 1 0 ∷ status.Reacquire 1 0 cause.Signalled ∷ status.Reacquire 1 0 cause.Broadcast ∷ status.Reacquire 1 0 cause.Canceled ∷ []) ≡ left ∷ record left { named = Some (named_action.Wake 3); events = what.WaitCanceled 1 ∷ what.HandedOn 1 3 ∷ [] } ∷ left ∷ no_change ∷ []
+acts_in_a_wait : map (acts_on_request 3) (status.Waiting 1 0 ∷ status.Reacquire 1 0 cause.Signalled ∷ status.Reacquire 1 0 cause.Broadcast ∷ status.Reacquire 1 0 cause.TimedOut ∷ status.Reacquire 1 0 cause.Canceled ∷ []) ≡ left ∷ record left { named = Some (named_action.Wake 3); events = what.WaitCanceled 1 ∷ what.HandedOn 1 3 ∷ [] } ∷ left ∷ left ∷ no_change ∷ []
 unfolding runs_on_literals
 acts_in_a_wait = refl
+
+-- the time of a wait expires: the thread goes for the mutex
+its_time_expires : expires 1 0 ≡ record (acts (what.WaitExpired 1 ∷ [])) { own = Some (own_action.SetStatus (status.Reacquire 1 0 cause.TimedOut)) }
+unfolding runs_on_literals
+its_time_expires = refl
+
+-- a thread owns the mutex again as it returns: with ETIMEDOUT if its time expired, and else with 0
+abbrev returns : ℕ → Transition
+returns number = record (goes_on 1 []) { writes = (destination.Local 3, number) ∷ []; shared = Some (shared_action.OwnMutex 0 7) }
+
+returns_from_a_wait : map (λ why. reacquires 7 1 0 why timed_wait) (cause.Signalled ∷ cause.Broadcast ∷ cause.TimedOut ∷ []) ≡ record (returns 0) { events = what.Acquired 0 ∷ what.Done 20 ∷ [] } ∷ record (returns 0) { events = what.Acquired 0 ∷ what.Done 20 ∷ [] } ∷ record (returns 4) { events = what.Acquired 0 ∷ what.Answer caller.CondTimedWait 4 ∷ [] } ∷ []
+unfolding runs_on_literals
+returns_from_a_wait = refl
+
+-- a wait for a semaphore returns 0 and takes it; if its time expires it returns ETIMEDOUT, and the count stays
+returns_from_sem_timedwait : map (λ choice. ends_sem_wait choice 1 5 (timed_sem_wait 1)) (alt.Go ∷ alt.Expire ∷ []) ≡ record (goes_on 1 (what.Taken 1 ∷ [])) { writes = (destination.Local 3, 0) ∷ []; shared = Some (shared_action.SetCount 1 4) } ∷ record (goes_on 1 (what.Answer caller.SemTimedWait 4 ∷ [])) { writes = (destination.Local 3, 4) ∷ [] } ∷ []
+unfolding runs_on_literals
+returns_from_sem_timedwait = refl
 
 -- the statuses in two processes after a transition of thread 1 of the first
 abbrev statuses_after : Transition → List Status
@@ -100,6 +171,11 @@ statuses_after o = flat_map (λ p. map (λ t. t.status) p.threads) (after_transi
 after_a_hand_on : statuses_after (acts_on_request 3 (status.Reacquire 1 0 cause.Signalled)) ≡ status.Reacquire 1 0 cause.Canceled ∷ status.Reacquire 1 5 cause.Signalled ∷ status.Waiting 2 0 ∷ status.Waiting 1 0 ∷ status.Waiting 1 0 ∷ []
 unfolding runs_on_literals
 after_a_hand_on = refl
+
+-- a time that expires unblocks nobody else
+after_its_time_expired : statuses_after (expires 1 0) ≡ status.Reacquire 1 0 cause.TimedOut ∷ status.Waiting 1 5 ∷ status.Waiting 2 0 ∷ status.Waiting 1 0 ∷ status.Waiting 1 0 ∷ []
+unfolding runs_on_literals
+after_its_time_expired = refl
 
 -- a broadcast unblocks all threads of its process that wait on its condition variable
 after_a_broadcast : statuses_after (broadcasts 7 1 2) ≡ status.Running ∷ status.Reacquire 1 5 cause.Broadcast ∷ status.Waiting 2 0 ∷ status.Reacquire 1 0 cause.Broadcast ∷ status.Waiting 1 0 ∷ []

@@ -1,5 +1,5 @@
 -- Reading with the list of entries so far gives the schedule of a text, or the prefix in it.
-use Rattle.pct_names.proofs.Names.{◌+◌, ◌++◌, [], ap, Bool, cond, Config, entries_from, Entry, entry_of, Err, false, header_of}
+use Rattle.pct_names.proofs.Names.{◌+◌, ◌++◌, [], ap, Bool, cond, Config, entries_from, Entry, entry_in, Err, false, header_of}
 use Rattle.pct_names.proofs.Names.{keyword_text, length, lines_of, List, map, nat_lt, None, nothing_after, Ok, Option, prepend_entry, Read}
 use Rattle.pct_names.proofs.Names.{read_end, read_entry, refl, sched_of, Schedule, schedule_at, schedule_from, Some, strip_cr, sym, true}
 use Rattle.pct_names.proofs.Names.{with_config, ℕ, ◌∙◌, ◌∷◌, ◌≡◌}
@@ -45,46 +45,46 @@ either_same config prefix true a b x y e f = e
 either_same config prefix false a b x y e f = f
 
 -- the entries of no line, to either end
-unended_same : (to : End) (n : ℕ) (config : Config) (prefix : List Entry) → unended to n config prefix ≡ after_these config prefix (entries_to to n config.budget (length prefix) [])
+unended_same : (to : End) (n : ℕ) (config : Config) (prefix : List Entry) → unended to n config prefix ≡ after_these config prefix (entries_to to n config (length prefix) [])
 unfolding entries_from prefix_entries_from
 unended_same end.Required n config prefix = refl
 unended_same end.Optional n config prefix = ap (λ (es : List Entry). Ok (config, es)) (sym (append-nil prefix))
 
 -- the entries of one line and of the lines after it, to either end
-one_more : (to : End) (n budget k : ℕ) (line : List ℕ) (lines : List (List ℕ))
-    → cond (begins (keyword_text keyword.End) line) (read_end n k line lines) (prepend_entry (read_entry n budget k (entry_of line)) (entries_to to (n + 1) budget (k + 1) lines)) ≡ entries_to to n budget k (line ∷ lines)
+one_more : (to : End) (n : ℕ) (config : Config) (k : ℕ) (line : List ℕ) (lines : List (List ℕ))
+    → cond (begins (keyword_text keyword.End) line) (read_end n k line lines) (prepend_entry (read_entry n config.budget k (entry_in config.format line)) (entries_to to (n + 1) config (k + 1) lines)) ≡ entries_to to n config k (line ∷ lines)
 unfolding entries_from prefix_entries_from
-one_more end.Required n budget k line lines = refl
-one_more end.Optional n budget k line lines = refl
+one_more end.Required n config k line lines = refl
+one_more end.Optional n config k line lines = refl
 
 -- the entries of the lines after these entries
 entries_same : (to : End) (n : ℕ) (config : Config) (prefix : List Entry) (lines : List (List ℕ))
-    → entries_in_to to n config prefix lines ≡ after_these config prefix (entries_to to n config.budget (length prefix) (map strip_cr lines))
+    → entries_in_to to n config prefix lines ≡ after_these config prefix (entries_to to n config (length prefix) (map strip_cr lines))
 entries_same to n config prefix [] = no_line to n config prefix ∙ unended_same to n config prefix
 entries_same to n config prefix (line ∷ lines) =
     let read = strip_cr line in
     let after = map strip_cr lines in
     let go : Entry → Schedule = λ e. entries_in_to to (n + 1) config (prefix ++ e ∷ []) lines in
-    let rest = entries_to to (n + 1) config.budget (length prefix + 1) after in
+    let rest = entries_to to (n + 1) config (length prefix + 1) after in
     one_line to n config prefix line lines
     ∙ either_same config prefix (begins (keyword_text keyword.End) read)
     (cond (is_end (length prefix) read) (ended (n + 1) config prefix lines) (Err (n, why.BadEnd)))
-    (with_entry n config (length prefix) (entry_of read) go)
+    (with_entry n config (length prefix) (entry_in config.format read) go)
     (read_end n (length prefix) read after)
-    (prepend_entry (read_entry n config.budget (length prefix) (entry_of read)) rest)
+    (prepend_entry (read_entry n config.budget (length prefix) (entry_in config.format read)) rest)
     (end_same n config prefix lines (is_end (length prefix) read))
-    (entry_same n (length prefix) config prefix (entry_of read) go rest
+    (entry_same n (length prefix) config prefix (entry_in config.format read) go rest
     (λ e. entries_same to (n + 1) config (prefix ++ e ∷ []) lines
-    ∙ ap (λ (k : ℕ). after_these config (prefix ++ e ∷ []) (entries_to to (n + 1) config.budget k after)) (length-append prefix (e ∷ []))))
-    ∙ ap (after_these config prefix) (one_more to n config.budget (length prefix) read after)
+    ∙ ap (λ (k : ℕ). after_these config (prefix ++ e ∷ []) (entries_to to (n + 1) config k after)) (length-append prefix (e ∷ []))))
+    ∙ ap (after_these config prefix) (one_more to n config (length prefix) read after)
 
 none_before : (config : Config) (read : Read (List Entry)) → after_these config [] read ≡ with_config config read
 none_before config (Ok entries) = refl
 none_before config (Err fault) = refl
 
 -- the lines after a header with these numbers
-pub from_first : (to : End) (n : ℕ) (config : Config) (lines : List (List ℕ)) → with_config config (entries_to to n config.budget 0 (map strip_cr lines)) ≡ entries_in_to to n config [] lines
-from_first to n config lines = sym (entries_same to n config [] lines ∙ none_before config (entries_to to n config.budget 0 (map strip_cr lines)))
+pub from_first : (to : End) (n : ℕ) (config : Config) (lines : List (List ℕ)) → with_config config (entries_to to n config 0 (map strip_cr lines)) ≡ entries_in_to to n config [] lines
+from_first to n config lines = sym (entries_same to n config [] lines ∙ none_before config (entries_to to n config 0 (map strip_cr lines)))
 
 header_same : (n : ℕ) (o : Option Config) (lines : List (List ℕ)) → with_header n o lines ≡ schedule_at n o (map strip_cr lines)
 header_same n None lines = refl

@@ -14,7 +14,7 @@ use Rattle.pct_schedule.specs.Prefix.{prefix_at, prefix_from}
 -- a header at line n, with the lines after it
 abbrev pub at_header : End → ℕ → Option Config → List (List ℕ) → Schedule
 at_header to n None lines = Err (n, why.BadHeader)
-at_header to n (Some config) lines = with_config config (entries_to to (n + 1) config.budget 0 (map strip_cr lines))
+at_header to n (Some config) lines = with_config config (entries_to to (n + 1) config 0 (map strip_cr lines))
 
 -- the header that was found, with the lines after it
 abbrev pub from_header : End → Option (ℕ × List ℕ × List (List ℕ)) → Schedule

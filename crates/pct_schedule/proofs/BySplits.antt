@@ -1,9 +1,9 @@
 -- Splitting a line at one space after the other gives what its words give.
-use Rattle.pct_names.proofs.Names.{◌&&◌, ◌-◌, ◌<◌, ◌>>=◌, [], Alt, ap, arith, Bool, bytes_eq, choice_of, codes, cond, Config, config_of}
-use Rattle.pct_names.proofs.Names.{drop, entry_of, entry_of_parts, entry_of_words, false, header_of, header_of_words, is_end_of_words}
-use Rattle.pct_names.proofs.Names.{is_number, keyword_text, length, List, nat_eq, nat_le, None, number_of, numbered_choice, Option}
-use Rattle.pct_names.proofs.Names.{option_map, option_map_or, refl, Some, split_once, starts_with, sym, take, take_rest, true, words_of, ℕ}
-use Rattle.pct_names.proofs.Names.{◌∙◌, ◌∷◌, ◌≡◌}
+use Rattle.pct_names.proofs.Names.{◌&&◌, ◌-◌, ◌<◌, ◌>>=◌, [], Alt, ap, arith, Bool, bytes_eq, choice_of, cond, Config, config_of, drop}
+use Rattle.pct_names.proofs.Names.{entry_of, entry_of_parts, entry_of_words, false, Format, format_with, header_of, header_of_words}
+use Rattle.pct_names.proofs.Names.{is_end_of_words, is_number, Keyword, keyword_text, length, List, nat_eq, nat_le, None, number_of}
+use Rattle.pct_names.proofs.Names.{numbered_choice, Option, option_map, option_map_or, refl, Some, split_once, starts_with, sym, take}
+use Rattle.pct_names.proofs.Names.{take_rest, true, words_of, ℕ, ◌∙◌, ◌∷◌, ◌≡◌}
 use mathlib.Core.Bool.{and-false}
 use Rattle.std.proofs.Common.{eq-eqb, eqb-true, ne_eqb, true≢false}
 use Rattle.pct_model.specs.declared.keyword.Keyword.TheVariants as keyword
@@ -13,7 +13,7 @@ use Rattle.pct_text.specs.FirstNumber.{split_number}
 use Rattle.pct_text.proofs.SplitOnce.{lacks-uncons}
 use Rattle.pct_text.proofs.Numbers.{number_lacks}
 use Rattle.pct_text.proofs.Lines.{words_of-split_once, words_of-last, words_of-some}
-use Rattle.pct_schedule.proofs.Splits.{begins_with, header_in, choice_in, entry_in, end_in}
+use Rattle.pct_schedule.proofs.Splits.{begins_with, header_in, choice_in, entry_in_line, end_in}
 
 and_more : (first word space rest : Bool) → (word && space) ≡ rest → ((first && word) && space) ≡ (first && rest)
 and_more true word space rest e = e
@@ -94,29 +94,30 @@ no_number (Some n) w parts e is = absurd (none_is_none parts (sym (number_lacks 
 
 -- ---- headers
 
-no_config : (a b : Option ℕ) → config_of a b None ≡ None
-no_config None b = refl
-no_config (Some most) None = refl
-no_config (Some most) (Some over) = refl
+no_config : (format : Option Format) (a b : Option ℕ) → config_of format a b None ≡ None
+no_config None a b = refl
+no_config (Some format) None b = refl
+no_config (Some format) (Some most) None = refl
+no_config (Some format) (Some most) (Some over) = refl
 
 -- the header with these words after its first two
 abbrev of_numbers : List ℕ → List ℕ → List (List ℕ) → Option Config
 of_numbers title format words = header_of_words (title ∷ format ∷ words)
 
-abbrev if_title : List ℕ → List ℕ → Option Config → Option Config
-if_title title format o = cond (bytes_eq title (keyword_text keyword.Schedule) && bytes_eq format (codes "1")) o None
+abbrev if_title : List ℕ → Option Config → Option Config
+if_title title o = cond (bytes_eq title (keyword_text keyword.Schedule)) o None
 
 too_many_words : (title format a b c : List ℕ) (words : List (List ℕ)) → 0 < length words → of_numbers title format (a ∷ b ∷ c ∷ words) ≡ None
 too_many_words title format a b c [] some = absurd (omega arith)
 too_many_words title format a b c (word ∷ words) some = refl
 
 last_number : (title format budget passes slots : List ℕ) (o : Option (List ℕ × List ℕ)) → split_once 32 slots ≡ o
-    → if_title title format (config_of (number_of budget) (number_of passes) (number_of slots)) ≡ of_numbers title format (budget ∷ passes ∷ words_of slots)
+    → if_title title (config_of (format_with format) (number_of budget) (number_of passes) (number_of slots)) ≡ of_numbers title format (budget ∷ passes ∷ words_of slots)
 last_number title format budget passes slots None e = rw (words_of-last slots e) refl
 last_number title format budget passes slots (Some parts) e =
-    ap (λ (o : Option ℕ). if_title title format (config_of (number_of budget) (number_of passes) o)) (no_number (number_of slots) slots parts refl e)
-    ∙ ap (if_title title format) (no_config (number_of budget) (number_of passes))
-    ∙ or_none (bytes_eq title (keyword_text keyword.Schedule) && bytes_eq format (codes "1"))
+    ap (λ (o : Option ℕ). if_title title (config_of (format_with format) (number_of budget) (number_of passes) o)) (no_number (number_of slots) slots parts refl e)
+    ∙ ap (if_title title) (no_config (format_with format) (number_of budget) (number_of passes))
+    ∙ or_none (bytes_eq title (keyword_text keyword.Schedule))
     ∙ sym (too_many_words title format budget passes parts.0 (words_of parts.1) (words_of-some parts.1))
     ∙ ap (λ (words : List (List ℕ)). of_numbers title format (budget ∷ passes ∷ words)) (sym (words_of-split_once slots parts e))
 
@@ -171,16 +172,26 @@ numbered_same kind number (Some parts) e =
     ap (λ (o : Option ℕ). o >>= λ n. numbered_choice kind n) (no_number (number_of number) number parts refl e)
     ∙ sym (many_words kind parts.0 (words_of parts.1) (words_of-some parts.1)) ∙ ap (λ (words : List (List ℕ)). choice_of (kind ∷ words)) (sym (words_of-split_once number parts e))
 
-not_go : (words : List ℕ) (parts : List ℕ × List ℕ) (is : Bool) → split_once 32 words ≡ Some parts → bytes_eq words (keyword_text keyword.Go) ≡ is → is ≡ false
+-- words with a space are not the keyword, which has none
+not_keyword : (k : Keyword) (words : List ℕ) (parts : List ℕ × List ℕ) (is : Bool) → split_once 32 (keyword_text k) ≡ None → split_once 32 words ≡ Some parts → bytes_eq words (keyword_text k) ≡ is → is ≡ false
+not_keyword k words parts true lacks e is = absurd (none_is_none parts (sym lacks ∙ ap (split_once 32) (sym (same_bytes words (keyword_text k) is)) ∙ e))
+not_keyword k words parts false lacks e is = refl
+
+go_lacks : split_once 32 (keyword_text keyword.Go) ≡ None
 unfolding split_once keyword_text
-not_go words parts true e is = absurd (none_is_none parts (ap (split_once 32) (sym (same_bytes words (keyword_text keyword.Go) is)) ∙ e))
-not_go words parts false e is = refl
+go_lacks = refl
+
+expire_lacks : split_once 32 (keyword_text keyword.Expire) ≡ None
+unfolding split_once keyword_text
+expire_lacks = refl
 
 choice_by_split : (words : List ℕ) (o : Option (List ℕ × List ℕ)) → split_once 32 words ≡ o → choice_in words ≡ choice_of (words_of words)
 unfolding choice_in
 choice_by_split words None e = rw (words_of-last words e, e) refl
 choice_by_split words (Some parts) e =
-    rw (words_of-split_once words parts e, e, not_go words parts (bytes_eq words (keyword_text keyword.Go)) e refl) (numbered_same parts.0 parts.1 (split_once 32 parts.1) refl)
+    rw
+    (words_of-split_once words parts e, e, not_keyword keyword.Go words parts (bytes_eq words (keyword_text keyword.Go)) go_lacks e refl, not_keyword keyword.Expire words parts (bytes_eq words (keyword_text keyword.Expire)) expire_lacks e refl)
+    (numbered_same parts.0 parts.1 (split_once 32 parts.1) refl)
 
 pub choice_same : (words : List ℕ) → choice_in words ≡ choice_of (words_of words)
 choice_same words = choice_by_split words (split_once 32 words) refl
@@ -190,8 +201,8 @@ pub choice_by_splits : (words : List ℕ) → choice_of (words_of words) ≡ cho
 choice_by_splits words = sym (choice_same words)
 
 entry_by_numbers : (line : List ℕ) (first second third : List ℕ × List ℕ) (a b c : Option ℕ) → split_once 32 line ≡ Some first → split_once 32 first.1 ≡ Some second → split_once 32 second.1 ≡ Some third
-    → number_of first.0 ≡ a → number_of second.0 ≡ b → number_of third.0 ≡ c → entry_in line ≡ entry_of_parts a b c (choice_in third.1)
-unfolding entry_in split_number
+    → number_of first.0 ≡ a → number_of second.0 ≡ b → number_of third.0 ≡ c → entry_in_line line ≡ entry_of_parts a b c (choice_in third.1)
+unfolding entry_in_line split_number
 entry_by_numbers line first second third None b c e f g x y z = rw (e, x) refl
 entry_by_numbers line first second third (Some worker) None c e f g x y z = rw (e, x, f, y) refl
 entry_by_numbers line first second third (Some worker) (Some pid) None e f g x y z = rw (e, x, f, y, g, z) refl
@@ -202,19 +213,19 @@ entry_by_numbers line first second third (Some worker) (Some pid) (Some tid) e f
     by_choice (Some choice) = refl
 
 no_third : (line : List ℕ) (first second : List ℕ × List ℕ) (a b : Option ℕ) → split_once 32 line ≡ Some first → split_once 32 first.1 ≡ Some second → split_once 32 second.1 ≡ None
-    → number_of first.0 ≡ a → number_of second.0 ≡ b → entry_in line ≡ None
-unfolding entry_in split_number
+    → number_of first.0 ≡ a → number_of second.0 ≡ b → entry_in_line line ≡ None
+unfolding entry_in_line split_number
 no_third line first second None b e f g x y = rw (e, x) refl
 no_third line first second (Some worker) None e f g x y = rw (e, x, f, y) refl
 no_third line first second (Some worker) (Some pid) e f g x y = rw (e, x, f, y, g) refl
 
-no_second : (line : List ℕ) (first : List ℕ × List ℕ) (a : Option ℕ) → split_once 32 line ≡ Some first → split_once 32 first.1 ≡ None → number_of first.0 ≡ a → entry_in line ≡ None
-unfolding entry_in split_number
+no_second : (line : List ℕ) (first : List ℕ × List ℕ) (a : Option ℕ) → split_once 32 line ≡ Some first → split_once 32 first.1 ≡ None → number_of first.0 ≡ a → entry_in_line line ≡ None
+unfolding entry_in_line split_number
 no_second line first None e f x = rw (e, x) refl
 no_second line first (Some worker) e f x = rw (e, x, f) refl
 
 entry_by_three : (line : List ℕ) (first second : List ℕ × List ℕ) (o : Option (List ℕ × List ℕ)) → split_once 32 line ≡ Some first → split_once 32 first.1 ≡ Some second → split_once 32 second.1 ≡ o
-    → entry_in line ≡ entry_of_words (words_of line)
+    → entry_in_line line ≡ entry_of_words (words_of line)
 entry_by_three line first second None e f g =
     rw (words_of-split_once line first e, words_of-split_once first.1 second f, words_of-last second.1 g)
     (no_third line first second (number_of first.0) (number_of second.0) e f g refl refl ∙ sym (no_choice (number_of first.0) (number_of second.0) (number_of second.1)))
@@ -223,21 +234,21 @@ entry_by_three line first second (Some third) e f g =
     (entry_by_numbers line first second third (number_of first.0) (number_of second.0) (number_of third.0) e f g refl refl refl
     ∙ ap (entry_of_parts (number_of first.0) (number_of second.0) (number_of third.0)) (choice_same third.1))
 
-entry_by_two : (line : List ℕ) (first : List ℕ × List ℕ) (o : Option (List ℕ × List ℕ)) → split_once 32 line ≡ Some first → split_once 32 first.1 ≡ o → entry_in line ≡ entry_of_words (words_of line)
+entry_by_two : (line : List ℕ) (first : List ℕ × List ℕ) (o : Option (List ℕ × List ℕ)) → split_once 32 line ≡ Some first → split_once 32 first.1 ≡ o → entry_in_line line ≡ entry_of_words (words_of line)
 entry_by_two line first None e f = rw (words_of-split_once line first e, words_of-last first.1 f) (no_second line first (number_of first.0) e f refl)
 entry_by_two line first (Some second) e f = entry_by_three line first second (split_once 32 second.1) e f refl
 
-entry_by_one : (line : List ℕ) (o : Option (List ℕ × List ℕ)) → split_once 32 line ≡ o → entry_in line ≡ entry_of_words (words_of line)
-unfolding entry_in split_number
+entry_by_one : (line : List ℕ) (o : Option (List ℕ × List ℕ)) → split_once 32 line ≡ o → entry_in_line line ≡ entry_of_words (words_of line)
+unfolding entry_in_line split_number
 entry_by_one line None e = rw (words_of-last line e, e) refl
 entry_by_one line (Some first) e = entry_by_two line first (split_once 32 first.1) e refl
 
-pub entry_same : (line : List ℕ) → entry_in line ≡ entry_of line
+pub entry_same : (line : List ℕ) → entry_in_line line ≡ entry_of line
 unfolding entry_of
 entry_same line = entry_by_one line (split_once 32 line) refl
 
 -- the same, from the words to the splits
-pub entry_by_splits : (line : List ℕ) → entry_of line ≡ entry_in line
+pub entry_by_splits : (line : List ℕ) → entry_of line ≡ entry_in_line line
 entry_by_splits line = sym (entry_same line)
 
 -- ---- ends

@@ -1,5 +1,5 @@
 -- A schedule, or a prefix of one, one line of a text after the other, with the list of entries so far, as the code reads it.
-use Rattle.pct_names.proofs.Names.{◌+◌, ◌++◌, [], Bool, Config, Entry, entry_of, Err, header_of, if◌then◌else◌, keyword_text, length, List}
+use Rattle.pct_names.proofs.Names.{◌+◌, ◌++◌, [], Bool, Config, Entry, entry_in, Err, header_of, if◌then◌else◌, keyword_text, length, List}
 use Rattle.pct_names.proofs.Names.{nat_lt, None, Ok, Option, refl, Schedule, Some, strip_cr, ℕ, ◌∷◌, ◌≡◌}
 use Rattle.pct_model.specs.declared.refusal.ScheduleWhy.TheVariants as why
 use Rattle.pct_model.specs.declared.keyword.Keyword.TheVariants as keyword
@@ -23,7 +23,7 @@ entries_in n config entries [] = Err (n, why.BadEnd)
 entries_in n config entries (line ∷ lines) =
     if begins (keyword_text keyword.End) (strip_cr line)
     then (if is_end (length entries) (strip_cr line) then ended (n + 1) config entries lines else Err (n, why.BadEnd))
-    else with_entry n config (length entries) (entry_of (strip_cr line)) (λ e. entries_in (n + 1) config (entries ++ e ∷ []) lines)
+    else with_entry n config (length entries) (entry_in config.format (strip_cr line)) (λ e. entries_in (n + 1) config (entries ++ e ∷ []) lines)
 
 -- a header, with the lines after it
 abbrev pub with_header : ℕ → Option Config → List (List ℕ) → Schedule
@@ -43,7 +43,7 @@ prefix_entries_in n config entries [] = Ok (config, entries)
 prefix_entries_in n config entries (line ∷ lines) =
     if begins (keyword_text keyword.End) (strip_cr line)
     then (if is_end (length entries) (strip_cr line) then ended (n + 1) config entries lines else Err (n, why.BadEnd))
-    else with_entry n config (length entries) (entry_of (strip_cr line)) (λ e. prefix_entries_in (n + 1) config (entries ++ e ∷ []) lines)
+    else with_entry n config (length entries) (entry_in config.format (strip_cr line)) (λ e. prefix_entries_in (n + 1) config (entries ++ e ∷ []) lines)
 
 -- the lines after the header, to this end
 abbrev pub entries_in_to : End → ℕ → Config → List Entry → List (List ℕ) → Schedule
@@ -60,7 +60,7 @@ abbrev pub at_entry : End → ℕ → Config → List Entry → List (List ℕ) 
 at_entry to n config entries lines line last =
     if last
     then (if is_end (length entries) line then ended (n + 1) config entries lines else Err (n, why.BadEnd))
-    else with_entry n config (length entries) (entry_of line) (λ e. entries_in_to to (n + 1) config (entries ++ e ∷ []) lines)
+    else with_entry n config (length entries) (entry_in config.format line) (λ e. entries_in_to to (n + 1) config (entries ++ e ∷ []) lines)
 
 -- no line, to either end
 pub no_line : (to : End) (n : ℕ) (config : Config) (entries : List Entry) → entries_in_to to n config entries [] ≡ unended to n config entries

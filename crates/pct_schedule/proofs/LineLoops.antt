@@ -1,7 +1,8 @@
 -- The loop over the lines of a schedule's text.
-use Rattle.pct_names.proofs.Names.{◌&&◌, ◌+◌, ◌++◌, ◌<◌, [], ap, arith, Bool, cond, Config, Entry, entry_of, Err, false, header_of, is_some}
-use Rattle.pct_names.proofs.Names.{keyword_text, length, lines_of, List, nat_eq, nat_lt, None, not, nothing_after, Ok, Option, read_end}
-use Rattle.pct_names.proofs.Names.{read_entry, refl, Result, Schedule, ScheduleWhy, Some, strip_cr, suc, sym, true, zero, ℕ, ◌∙◌, ◌∷◌, ◌≡◌}
+use Rattle.pct_names.proofs.Names.{◌&&◌, ◌+◌, ◌++◌, ◌<◌, [], ap, arith, Bool, cond, Config, Entry, entry_in, Err, false, Format, header_of}
+use Rattle.pct_names.proofs.Names.{is_some, keyword_text, length, lines_of, List, nat_eq, nat_lt, None, not, nothing_after, Ok, Option}
+use Rattle.pct_names.proofs.Names.{read_end, read_entry, refl, Result, Schedule, ScheduleWhy, Some, strip_cr, suc, sym, true, zero, ℕ, ◌∙◌}
+use Rattle.pct_names.proofs.Names.{◌∷◌, ◌≡◌}
 use Rattle.std.proofs.lemmas.Bool.{eqb-true}
 use Rattle.pct_model.specs.declared.refusal.ScheduleWhy.TheVariants as why
 use Rattle.pct_model.specs.declared.keyword.Keyword.TheVariants as keyword
@@ -13,7 +14,7 @@ use Rattle.pct_schedule.specs.declared.reader.End.{End}
 use Rattle.pct_schedule.specs.declared.fault.ScheduleFault.{ScheduleFault}
 use Rattle.pct_schedule.specs.declared.fault.ScheduleFault.TheVariants as fault
 use Rattle.pct_schedule.specs.Gives.{Fails, Refuses}
-use Rattle.pct_schedule.specs.Memory.{header_line, entry_is_first, has_entry_after, stores_an_entry}
+use Rattle.pct_schedule.specs.Memory.{header_line, entry_is_first, entry_follows, has_entry_after, stores_an_entry}
 use Rattle.pct_schedule.proofs.LineByLine.{ended, with_entry, entries_in_to, unended, at_entry, no_line, one_line}
 
 -- the first line of a text, without its CR
@@ -114,12 +115,12 @@ at_last_line to n count config entries rest line after all reads is so_far many 
 
 pub at_entry_line : (to : End) (n count : ℕ) (config : Config) (entries : List Entry) (rest line after : List ℕ) (all : Schedule) → ReadsLine rest line after
     → begins (keyword_text keyword.End) line ≡ false → all ≡ entries_in_to to n config entries (lines_of rest)
-    → count ≡ length entries → all ≡ and_then (read_entry n config.budget count (entry_of line)) (λ e. entries_in_to to (n + 1) config (entries ++ e ∷ []) (lines_of after))
+    → count ≡ length entries → all ≡ and_then (read_entry n config.budget count (entry_in config.format line)) (λ e. entries_in_to to (n + 1) config (entries ++ e ∷ []) (lines_of after))
 at_entry_line to n count config entries rest line after all reads is so_far many =
     let go : Entry → Schedule = λ e. entries_in_to to (n + 1) config (entries ++ e ∷ []) (lines_of after) in
     so_far ∙ by_entry_line to n config entries rest line after false reads is
-    ∙ by_entry n config (length entries) (entry_of line) go
-    ∙ ap (λ (k : ℕ). and_then (read_entry n config.budget k (entry_of line)) go) (sym many)
+    ∙ by_entry n config (length entries) (entry_in config.format line) go
+    ∙ ap (λ (k : ℕ). and_then (read_entry n config.budget k (entry_in config.format line)) go) (sym many)
 
 pub no_end : (to : End) (n : ℕ) (config : Config) (entries : List Entry) (rest : List ℕ) (all : Schedule) → rest ≡ [] → all ≡ entries_in_to to n config entries (lines_of rest)
     → all ≡ unended to n config entries
@@ -140,25 +141,25 @@ read_is_some : (n budget count : ℕ) (o : Option Entry) (e : Entry) → read_en
 read_is_some n budget count None e h = absurd cc
 read_is_some n budget count (Some other) e h = refl
 
-abbrev first_by : List ℕ → Bool
-first_by line = not (begins (keyword_text keyword.End) line) && is_some (entry_of line)
+abbrev first_by : Format → List ℕ → Bool
+first_by format line = not (begins (keyword_text keyword.End) line) && is_some (entry_in format line)
 
 -- the line of an entry that is read is an entry
-pub first_is_entry : (n budget count : ℕ) (text line after : List ℕ) (e : Entry) → ReadsLine text line after → begins (keyword_text keyword.End) line ≡ false
-    → read_entry n budget count (entry_of line) ≡ Ok e → entry_is_first (lines_of text) ≡ true
+pub first_is_entry : (format : Format) (n budget count : ℕ) (text line after : List ℕ) (e : Entry) → ReadsLine text line after → begins (keyword_text keyword.End) line ≡ false
+    → read_entry n budget count (entry_in format line) ≡ Ok e → entry_is_first format (lines_of text) ≡ true
 unfolding entry_is_first
-first_is_entry n budget count text line after e reads other is =
-    let some : is_some (entry_of line) ≡ true = read_is_some n budget count (entry_of line) e is in
-    ap entry_is_first reads.first.lines ∙ ap first_by reads.read ∙ ap (λ t. not t && is_some (entry_of line)) other ∙ some
+first_is_entry format n budget count text line after e reads other is =
+    let some : is_some (entry_in format line) ≡ true = read_is_some n budget count (entry_in format line) e is in
+    ap (entry_is_first format) reads.first.lines ∙ ap (first_by format) reads.read ∙ ap (λ t. not t && is_some (entry_in format line)) other ∙ some
 
--- an entry after a header with legal numbers is stored
-pub stored_after : (text : List ℕ) (n : ℕ) (line : List ℕ) (lines : List (List ℕ)) → header_line 1 (lines_of text) ≡ Some (n, line, lines) → is_some (header_of line) ≡ true → entry_is_first lines ≡ true
-    → stores_an_entry text ≡ true
+-- an entry after a legal header is stored
+pub stored_after : (text : List ℕ) (n : ℕ) (line : List ℕ) (lines : List (List ℕ)) (config : Config) → header_line 1 (lines_of text) ≡ Some (n, line, lines) → header_of line ≡ Some config
+    → entry_is_first config.format lines ≡ true → stores_an_entry text ≡ true
 unfolding stores_an_entry
-stored_after text n line lines e legal first = ap has_entry_after e ∙ ap (λ t. t && entry_is_first lines) legal ∙ first
+stored_after text n line lines config e legal first = ap has_entry_after e ∙ ap (λ (o : Option Config). entry_follows o lines) legal ∙ first
 
 -- the entry of the line at hand is the first, or an entry was stored before it
-pub first_stays : (count : ℕ) (text rest : List ℕ) → (count ≡ 0 → rest ≡ text) → (0 < count → entry_is_first (lines_of text) ≡ true) → entry_is_first (lines_of rest) ≡ true
-    → entry_is_first (lines_of text) ≡ true
-first_stays zero text rest start stored here = ap (λ (t : List ℕ). entry_is_first (lines_of t)) (sym (start refl)) ∙ here
-first_stays (suc count) text rest start stored here = stored (omega arith)
+pub first_stays : (format : Format) (count : ℕ) (text rest : List ℕ) → (count ≡ 0 → rest ≡ text) → (0 < count → entry_is_first format (lines_of text) ≡ true) → entry_is_first format (lines_of rest) ≡ true
+    → entry_is_first format (lines_of text) ≡ true
+first_stays format zero text rest start stored here = ap (λ (t : List ℕ). entry_is_first format (lines_of t)) (sym (start refl)) ∙ here
+first_stays format (suc count) text rest start stored here = stored (omega arith)

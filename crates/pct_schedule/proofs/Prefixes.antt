@@ -1,6 +1,6 @@
 -- How the prefix in a text agrees with the schedule in it.
-use Rattle.pct_names.proofs.Names.{◌+◌, ◌<◌, [], ap, arith, Bool, cond, Config, default_config, entries_from, Entry, entry_of, Err, false}
-use Rattle.pct_names.proofs.Names.{header_of, keyword_text, length, length-map, lines_of, List, map, nat_eq, None, Ok, Option}
+use Rattle.pct_names.proofs.Names.{◌+◌, ◌<◌, [], ap, arith, Bool, cond, Config, default_config, entries_from, Entry, entry_in, Err, false}
+use Rattle.pct_names.proofs.Names.{Format, header_of, keyword_text, length, length-map, lines_of, List, map, nat_eq, None, Ok, Option}
 use Rattle.pct_names.proofs.Names.{prepend_entry, Read, read_end, read_entry, refl, sched_of, schedule_at, schedule_from, ScheduleWhy, Some}
 use Rattle.pct_names.proofs.Names.{strip_cr, true, with_config, ℕ, ◌∙◌, ◌∷◌, ◌≡◌}
 use Rattle.std.proofs.lemmas.Bool.{eqb-true}
@@ -12,15 +12,15 @@ use Rattle.pct_schedule.specs.Prefix.{prefix_entries_from, prefix_at, prefix_fro
 use Rattle.pct_schedule.specs.PrefixLaws.{SchedulesArePrefixes, PrefixFaultsAreScheduleFaults, OnlyTheEndIsMissing}
 
 -- the prefix in a text that is empty, and in one that is not
-pub prefix_of_none : (text : List ℕ) → nat_eq (length text) 0 ≡ true → prefix_of text ≡ Ok (default_config, [])
+pub prefix_of_none : (format : Format) (text : List ℕ) → nat_eq (length text) 0 ≡ true → prefix_of format text ≡ Ok (record default_config { format = format }, [])
 unfolding prefix_of
-prefix_of_none [] none = refl
-prefix_of_none (b ∷ bytes) none = let e : length (b ∷ bytes) ≡ 0 = eqb-true (length (b ∷ bytes)) 0 none in absurd (omega (arith, e))
+prefix_of_none format [] none = refl
+prefix_of_none format (b ∷ bytes) none = let e : length (b ∷ bytes) ≡ 0 = eqb-true (length (b ∷ bytes)) 0 none in absurd (omega (arith, e))
 
-pub prefix_of_some : (text : List ℕ) → nat_eq (length text) 0 ≡ false → prefix_of text ≡ prefix_from 1 (map strip_cr (lines_of text))
+pub prefix_of_some : (format : Format) (text : List ℕ) → nat_eq (length text) 0 ≡ false → prefix_of format text ≡ prefix_from 1 (map strip_cr (lines_of text))
 unfolding prefix_of
-prefix_of_some [] some = absurd cc
-prefix_of_some (b ∷ bytes) some = refl
+prefix_of_some format [] some = absurd cc
+prefix_of_some format (b ∷ bytes) some = refl
 
 -- what a text gives as a schedule and as a prefix: a schedule is the prefix, too; a fault of the prefix is that of the schedule; and if
 -- there is a prefix alone, the fault of the schedule is that line `last` is missing
@@ -49,16 +49,16 @@ entry_agrees last (Ok e) (Err fault) (Ok prefix) agree = agree
 entry_agrees last (Ok e) (Err fault) (Err other) agree = agree
 
 -- the entries agree, where `last` is the line after all lines
-entries_agree : (last n budget k : ℕ) (lines : List (List ℕ)) → n + length lines ≡ last → Agrees last (entries_from n budget k lines) (prefix_entries_from n budget k lines)
+entries_agree : (last n : ℕ) (config : Config) (k : ℕ) (lines : List (List ℕ)) → n + length lines ≡ last → Agrees last (entries_from n config k lines) (prefix_entries_from n config k lines)
 unfolding entries_from prefix_entries_from
-entries_agree last n budget k [] many = let same : n ≡ last = omega (arith, many) in ap (λ (m : ℕ). (m, why.BadEnd)) same
-entries_agree last n budget k (line ∷ lines) many =
-    let e = read_entry n budget k (entry_of line) in
-    let rest = entries_from (n + 1) budget (k + 1) lines in
-    let prefix = prefix_entries_from (n + 1) budget (k + 1) lines in
+entries_agree last n config k [] many = let same : n ≡ last = omega (arith, many) in ap (λ (m : ℕ). (m, why.BadEnd)) same
+entries_agree last n config k (line ∷ lines) many =
+    let e = read_entry n config.budget k (entry_in config.format line) in
+    let rest = entries_from (n + 1) config (k + 1) lines in
+    let prefix = prefix_entries_from (n + 1) config (k + 1) lines in
     either_agrees last (begins (keyword_text keyword.End) line) (read_end n k line lines) (prepend_entry e rest) (read_end n k line lines) (prepend_entry e prefix)
     (agrees_with_itself last (read_end n k line lines))
-    (entry_agrees last e rest prefix (entries_agree last (n + 1) budget (k + 1) lines (omega (arith, many))))
+    (entry_agrees last e rest prefix (entries_agree last (n + 1) config (k + 1) lines (omega (arith, many))))
 
 -- ---- the header
 
@@ -72,7 +72,7 @@ config_agrees last config (Err fault) (Err other) agree = agree
 header_agrees : (last n : ℕ) (o : Option Config) (lines : List (List ℕ)) → n + 1 + length lines ≡ last → Agrees last (schedule_at n o lines) (prefix_at n o lines)
 header_agrees last n None lines many = refl
 header_agrees last n (Some config) lines many =
-    config_agrees last config (entries_from (n + 1) config.budget 0 lines) (prefix_entries_from (n + 1) config.budget 0 lines) (entries_agree last (n + 1) config.budget 0 lines many)
+    config_agrees last config (entries_from (n + 1) config 0 lines) (prefix_entries_from (n + 1) config 0 lines) (entries_agree last (n + 1) config 0 lines many)
 
 -- the lines from line n on agree
 lines_agree : (last n : ℕ) (lines : List (List ℕ)) → n + length lines ≡ last → Agrees last (schedule_from n lines) (prefix_from n lines)
@@ -85,10 +85,10 @@ lines_agree last n (line ∷ lines) many =
 -- ---- texts
 
 -- the schedule and the prefix in a text with a byte agree
-text_agrees : (text : List ℕ) → 0 < length text → Agrees (length (lines_of text) + 1) (sched_of text) (prefix_of text)
+text_agrees : (format : Format) (text : List ℕ) → 0 < length text → Agrees (length (lines_of text) + 1) (sched_of text) (prefix_of format text)
 unfolding sched_of prefix_of
-text_agrees [] some = absurd (omega arith)
-text_agrees (b ∷ bytes) some =
+text_agrees format [] some = absurd (omega arith)
+text_agrees format (b ∷ bytes) some =
     let lines = lines_of (b ∷ bytes) in
     lines_agree (length lines + 1) 1 (map strip_cr lines) (omega (arith, length-map lines strip_cr))
 
@@ -116,19 +116,19 @@ last_fault last (Err first) (Err other) a fault agree e f = absurd cc
 
 -- a text with a schedule has the same prefix
 pub schedule_is_prefix : SchedulesArePrefixes
-schedule_is_prefix [] schedule e = absurd (let refused = empty_is_refused in cc)
-schedule_is_prefix (b ∷ bytes) schedule e =
+schedule_is_prefix format [] schedule e = absurd (let refused = empty_is_refused in cc)
+schedule_is_prefix format (b ∷ bytes) schedule e =
     let text : List ℕ = b ∷ bytes in
-    same_value (length (lines_of text) + 1) (sched_of text) (prefix_of text) schedule (text_agrees text (omega arith)) e
+    same_value (length (lines_of text) + 1) (sched_of text) (prefix_of format text) schedule (text_agrees format text (omega arith)) e
 
 -- a fault of the prefix is that of the schedule
 pub prefix_fault_is_schedule_fault : PrefixFaultsAreScheduleFaults
 unfolding prefix_of
-prefix_fault_is_schedule_fault [] fault e = absurd cc
-prefix_fault_is_schedule_fault (b ∷ bytes) fault e =
+prefix_fault_is_schedule_fault format [] fault e = absurd cc
+prefix_fault_is_schedule_fault format (b ∷ bytes) fault e =
     let text : List ℕ = b ∷ bytes in
-    same_fault (length (lines_of text) + 1) (sched_of text) (prefix_of text) fault (text_agrees text (omega arith)) e
+    same_fault (length (lines_of text) + 1) (sched_of text) (prefix_of format text) fault (text_agrees format text (omega arith)) e
 
 -- a text with a prefix and no schedule is without the last line
 pub only_end_is_missing : OnlyTheEndIsMissing
-only_end_is_missing text prefix fault some e f = last_fault (length (lines_of text) + 1) (sched_of text) (prefix_of text) prefix fault (text_agrees text some) e f
+only_end_is_missing format text prefix fault some e f = last_fault (length (lines_of text) + 1) (sched_of text) (prefix_of format text) prefix fault (text_agrees format text some) e f

@@ -1,9 +1,10 @@
 -- A schedule that is read is within its limits, and the sections of an input are in the input.
 use Rattle.pct_names.proofs.Names.{◌&&◌, ◌+◌, ◌++◌, ◌<◌, ◌>>=◌, [], Alt, and_from, and_parts, arith, Bool, bytes_eq, choice_of, cond}
-use Rattle.pct_names.proofs.Names.{cond_both, Config, config_of, decimal, digits_value, Entry, entry_of, entry_of_parts, entry_of_words}
-use Rattle.pct_names.proofs.Names.{Err, header_of, header_of_words, IfSome, is_config, keyword_text, length, lines_of, List, list_all}
-use Rattle.pct_names.proofs.Names.{list_all-append, nat_le, nat_lt, None, number_of, numbered_choice, Ok, Option, refl, sched_of, Schedule}
-use Rattle.pct_names.proofs.Names.{Some, strip_cr, subst, sym, true, words_of, ℕ, ◌∙◌, ◌∷◌, ◌≡◌}
+use Rattle.pct_names.proofs.Names.{cond_both, Config, config_of, decimal, digits_value, Entry, entry_in, entry_of, entry_of_parts}
+use Rattle.pct_names.proofs.Names.{entry_of_words, Err, Format, format_with, has_choice, header_of, header_of_words, if_known, IfSome}
+use Rattle.pct_names.proofs.Names.{is_config, keyword_text, length, lines_of, List, list_all, list_all-append, nat_le, nat_lt, None}
+use Rattle.pct_names.proofs.Names.{number_of, numbered_choice, Ok, Option, refl, sched_of, Schedule, Some, strip_cr, subst, sym, true}
+use Rattle.pct_names.proofs.Names.{words_of, ℕ, ◌∙◌, ◌∷◌, ◌≡◌}
 use Rattle.std.proofs.Common.{ltb-true, length-append}
 use Rattle.pct_model.specs.declared.schedule.Alt.TheVariants as alt
 use Rattle.pct_model.specs.declared.refusal.ScheduleWhy.TheVariants as why
@@ -54,7 +55,10 @@ numbered_is_choice kind n fit =
 
 words_are_choice : (words : List (List ℕ)) → Passes is_choice (choice_of words)
 words_are_choice [] = tt
-words_are_choice (kind ∷ []) = if_passes is_choice (bytes_eq kind (keyword_text keyword.Go)) (Some alt.Go) None (λ _. refl) tt
+words_are_choice (kind ∷ []) =
+    let expire = cond (bytes_eq kind (keyword_text keyword.Expire)) (Some alt.Expire) None in
+    if_passes is_choice (bytes_eq kind (keyword_text keyword.Go)) (Some alt.Go) expire (λ _. refl)
+    (if_passes is_choice (bytes_eq kind (keyword_text keyword.Expire)) (Some alt.Expire) None (λ _. refl) tt)
 words_are_choice (kind ∷ number ∷ []) = bind_passes fits is_choice (number_of number) (numbered_choice kind) (number_fits number) (numbered_is_choice kind)
 words_are_choice (kind ∷ number ∷ next ∷ words) = tt
 
@@ -77,14 +81,29 @@ line_is_entry : (line : List ℕ) → Passes is_entry (entry_of line)
 unfolding entry_of
 line_is_entry line = words_are_entry (words_of line)
 
+-- an entry of a schedule of this format has a choice that the format has
+abbrev is_known : Format → Entry → Bool
+is_known format e = has_choice format e.alt
+
+line_is_entry_in : (format : Format) (line : List ℕ) → Passes is_entry (entry_in format line)
+line_is_entry_in format line = bind_passes is_entry is_entry (entry_of line) (if_known format) (line_is_entry line) (λ e fit. if_passes is_entry (is_known format e) (Some e) None (λ _. fit) tt)
+
+known_of : (format : Format) (o : Option Entry) → Passes (is_known format) (o >>= if_known format)
+known_of format None = tt
+known_of format (Some e) = if_passes (is_known format) (is_known format e) (Some e) None (λ known. known) tt
+
+line_is_known : (format : Format) (line : List ℕ) → Passes (is_known format) (entry_in format line)
+line_is_known format line = known_of format (entry_of line)
+
 -- ---- the header
 
-numbers_are_config : (budget passes slots : Option ℕ) → Passes is_config (config_of budget passes slots)
-numbers_are_config None passes slots = tt
-numbers_are_config (Some budget) None slots = tt
-numbers_are_config (Some budget) (Some passes) None = tt
-numbers_are_config (Some budget) (Some passes) (Some slots) =
-    let config : Config = record { budget = budget; passes = passes; slots = slots } in
+numbers_are_config : (format : Option Format) (budget passes slots : Option ℕ) → Passes is_config (config_of format budget passes slots)
+numbers_are_config None budget passes slots = tt
+numbers_are_config (Some format) None passes slots = tt
+numbers_are_config (Some format) (Some budget) None slots = tt
+numbers_are_config (Some format) (Some budget) (Some passes) None = tt
+numbers_are_config (Some format) (Some budget) (Some passes) (Some slots) =
+    let config : Config = record { budget = budget; passes = passes; slots = slots; format = format } in
     if_passes is_config (is_config config) (Some config) None (λ is. is) tt
 
 words_are_config : (words : List (List ℕ)) → Passes is_config (header_of_words words)
@@ -94,7 +113,7 @@ words_are_config (a ∷ b ∷ []) = tt
 words_are_config (a ∷ b ∷ c ∷ []) = tt
 words_are_config (a ∷ b ∷ c ∷ d ∷ []) = tt
 words_are_config (title ∷ format ∷ budget ∷ passes ∷ slots ∷ []) =
-    if_passes is_config _ (config_of (number_of budget) (number_of passes) (number_of slots)) None (λ _. numbers_are_config (number_of budget) (number_of passes) (number_of slots)) tt
+    if_passes is_config _ (config_of (format_with format) (number_of budget) (number_of passes) (number_of slots)) None (λ _. numbers_are_config (format_with format) (number_of budget) (number_of passes) (number_of slots)) tt
 words_are_config (a ∷ b ∷ c ∷ d ∷ e ∷ next ∷ words) = tt
 
 line_is_config : (line : List ℕ) → Passes is_config (header_of line)
@@ -115,20 +134,24 @@ ended_within : (n : ℕ) (config : Config) (entries : List Entry) (lines : List 
 ended_within n config entries [] is = is
 ended_within n config entries (line ∷ lines) is = tt
 
-more_within : (config : Config) (entries : List Entry) (e : Entry) → IsSchedule config entries → length entries < config.budget → is_entry e ≡ true → IsSchedule config (entries ++ e ∷ [])
-more_within config entries e is within fit =
+more_within : (config : Config) (entries : List Entry) (e : Entry) → IsSchedule config entries → length entries < config.budget → is_entry e ≡ true → is_known config.format e ≡ true → IsSchedule config (entries ++ e ∷ [])
+more_within config entries e is within fit known =
     record {
       config_fits = is.config_fits;
       few = omega (arith, length-append entries (e ∷ []), within);
-      each = list_all-append is_entry entries (e ∷ []) ∙ and_from (list_all is_entry entries) (list_all is_entry (e ∷ [])) is.each (and_from (is_entry e) true fit refl);
+      each = all_more is_entry is.each fit;
+      known = all_more (is_known config.format) is.known known;
     }
+  where
+    all_more : (test : Entry → Bool) → list_all test entries ≡ true → test e ≡ true → list_all test (entries ++ e ∷ []) ≡ true
+    all_more test all last = list_all-append test entries (e ∷ []) ∙ and_from (list_all test entries) (list_all test (e ∷ [])) all (and_from (test e) true last refl)
 
-entry_within : (n : ℕ) (config : Config) (entries : List Entry) (o : Option Entry) (go : Entry → Schedule) → IsSchedule config entries → Passes is_entry o
+entry_within : (n : ℕ) (config : Config) (entries : List Entry) (o : Option Entry) (go : Entry → Schedule) → IsSchedule config entries → Passes is_entry o → Passes (is_known config.format) o
     → ((e : Entry) → IsSchedule config (entries ++ e ∷ []) → Within (go e)) → Within (with_entry n config (length entries) o go)
-entry_within n config entries None go is passes more = tt
-entry_within n config entries (Some e) go is passes more =
+entry_within n config entries None go is passes known more = tt
+entry_within n config entries (Some e) go is passes known more =
     cond_both (nat_lt (length entries) config.budget) (go e) (Err (n, why.TooMany)) Within
-    (λ within. more e (more_within config entries e is (ltb-true (length entries) config.budget within) passes)) (λ _. tt)
+    (λ within. more e (more_within config entries e is (ltb-true (length entries) config.budget within) passes known)) (λ _. tt)
 
 unended_within : (to : End) (n : ℕ) (config : Config) (entries : List Entry) → IsSchedule config entries → Within (unended to n config entries)
 unended_within end.Required n config entries is = tt
@@ -141,15 +164,15 @@ entries_within to n config entries (line ∷ lines) is =
     subst Within (sym (one_line to n config entries line lines))
     (if_within (begins (keyword_text keyword.End) (strip_cr line))
     (cond (is_end (length entries) (strip_cr line)) (ended (n + 1) config entries lines) (Err (n, why.BadEnd)))
-    (with_entry n config (length entries) (entry_of (strip_cr line)) go)
+    (with_entry n config (length entries) (entry_in config.format (strip_cr line)) go)
     (if_within (is_end (length entries) (strip_cr line)) (ended (n + 1) config entries lines) (Err (n, why.BadEnd)) (ended_within (n + 1) config entries lines is) tt)
-    (entry_within n config entries (entry_of (strip_cr line)) go is (line_is_entry (strip_cr line))
+    (entry_within n config entries (entry_in config.format (strip_cr line)) go is (line_is_entry_in config.format (strip_cr line)) (line_is_known config.format (strip_cr line))
     (λ e more. entries_within to (n + 1) config (entries ++ e ∷ []) lines more)))
 
 header_within : (to : End) (n : ℕ) (o : Option Config) (lines : List (List ℕ)) → Passes is_config o → Within (at_header to n o lines)
 header_within to n None lines passes = tt
 header_within to n (Some config) lines passes =
-    subst Within (sym (from_first to (n + 1) config lines)) (entries_within to (n + 1) config [] lines (record { config_fits = passes; few = omega arith; each = refl }))
+    subst Within (sym (from_first to (n + 1) config lines)) (entries_within to (n + 1) config [] lines (record { config_fits = passes; few = omega arith; each = refl; known = refl }))
 
 found_within : (to : End) (header : Option (ℕ × List ℕ × List (List ℕ))) → Within (from_header to header)
 found_within to None = tt

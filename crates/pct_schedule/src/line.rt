@@ -5,10 +5,10 @@ ghost use Rattle.pct_model.specs.declared.keyword.Keyword.TheVariants as keyword
 ghost use Rattle.pct_model.specs.Keywords.{keyword_text};
 ghost use Rattle.pct_model.specs.Lines.{words_of, number_of};
 ghost use Rattle.pct_model.specs.Run.{is_config};
-ghost use Rattle.pct_model.specs.Schedule.{begins, config_of, header_of, numbered_choice, choice_of, entry_of, is_number, is_end};
+ghost use Rattle.pct_model.specs.Schedule.{begins, format_with, config_of, header_of, numbered_choice, choice_of, entry_of, entry_in, is_number, is_end};
 
 use pct_model::{
-    Alt, Config, Entry, Keyword, MAX_BUDGET, MAX_PASSES, MAX_SLOTS, MAX_WORKER, MIN_PASSES,
+    Alt, Config, Entry, Format, Keyword, MAX_BUDGET, MAX_PASSES, MAX_SLOTS, MAX_WORKER, MIN_PASSES,
 };
 use pct_text::{number_of, split_number, split_once};
 
@@ -21,11 +21,25 @@ pub fn begins_with(line: &[u8], keyword: Keyword) -> bool
     line.starts_with(word) && line[word.len()..].starts_with(b" ")
 }
 
-// The configuration of three numbers, if it is within the limits.
-fn config_of(budget: &[u8], passes: &[u8], slots: &[u8]) -> Option<Config>
-    ensures { result ≡ config_of (number_of budget.now) (number_of passes.now) (number_of slots.now) }
+// The format with this number.
+fn format_with(word: &[u8]) -> Option<Format>
+    ensures { result ≡ format_with word.now }
+{
+    if word == b"1".as_slice() {
+        Some(Format::One)
+    } else if word == b"2".as_slice() {
+        Some(Format::Two)
+    } else {
+        None
+    }
+}
+
+// The configuration of a format and three numbers, if it is within the limits.
+fn config_of(format: &[u8], budget: &[u8], passes: &[u8], slots: &[u8]) -> Option<Config>
+    ensures { result ≡ config_of (format_with format.now) (number_of budget.now) (number_of passes.now) (number_of slots.now) }
 {
     let config = Config {
+        format: format_with(format)?,
         budget: number_of(budget)?,
         passes: number_of(passes)?,
         slots: number_of(slots)?,
@@ -49,7 +63,7 @@ fn is_config(config: Config) -> bool
         && config.slots <= MAX_SLOTS
 }
 
-/// The configuration in a header, `schedule 1 BUDGET PASSES SLOTS`, if it is within the limits.
+/// The configuration in a header, `schedule FORMAT BUDGET PASSES SLOTS`, if it is within the limits.
 #[tactic(auto, using(crate::proofs::BySplits::header_by_splits), unfolding(crate::proofs::Splits::header_in))]
 pub fn header_of(line: &[u8]) -> Option<Config>
     ensures { result ≡ header_of line.now }
@@ -58,8 +72,8 @@ pub fn header_of(line: &[u8]) -> Option<Config>
     let (format, words) = split_once(words, b' ')?;
     let (budget, words) = split_once(words, b' ')?;
     let (passes, slots) = split_once(words, b' ')?;
-    if title == Keyword::Schedule.text() && format == b"1".as_slice() {
-        config_of(budget, passes, slots)
+    if title == Keyword::Schedule.text() {
+        config_of(format, budget, passes, slots)
     } else {
         None
     }
@@ -94,7 +108,7 @@ fn is_go(words: &[u8]) -> bool
     }
 }
 
-// An alternative: `go`, or a keyword and a number.
+// An alternative: `go`, `expire`, or a keyword and a number.
 #[tactic(auto, using(crate::proofs::BySplits::choice_by_splits), unfolding(crate::proofs::Splits::choice_in))]
 fn choice_of(words: &[u8]) -> Option<Alt>
     ensures { result ≡ choice_of (words_of words.now) }
@@ -102,12 +116,15 @@ fn choice_of(words: &[u8]) -> Option<Alt>
     if is_go(words) {
         return Some(Alt::Go);
     }
+    if words == Keyword::Expire.text() {
+        return Some(Alt::Expire);
+    }
     let (kind, number) = split_once(words, b' ')?;
     numbered_choice(kind, number_of(number)?)
 }
 
 /// The entry of a line: worker, process, thread and alternative.
-#[tactic(auto, using(crate::proofs::BySplits::entry_by_splits, crate::proofs::BySplits::choice_by_splits), unfolding(crate::proofs::Splits::entry_in))]
+#[tactic(auto, using(crate::proofs::BySplits::entry_by_splits, crate::proofs::BySplits::choice_by_splits), unfolding(crate::proofs::Splits::entry_in_line))]
 pub fn entry_of(line: &[u8]) -> Option<Entry>
     ensures { result ≡ entry_of line.now }
 {
@@ -124,6 +141,18 @@ pub fn entry_of(line: &[u8]) -> Option<Entry>
         })
     } else {
         None
+    }
+}
+
+/// The entry of a line, if a schedule of this format may have it.
+pub fn entry_in(format: Format, line: &[u8]) -> Option<Entry>
+    ensures { result ≡ entry_in format line.now }
+{
+    let entry = entry_of(line)?;
+    if entry.alt == Alt::Expire && !format.has_timeouts() {
+        None
+    } else {
+        Some(entry)
     }
 }
 

@@ -5,7 +5,7 @@ ghost use Rattle.std.specs.Prelude.{◌≡◌, ◌+◌, ◌-◌, ◌<◌, ◌≤
 ghost use Rattle.std.specs.Option.{option_map};
 ghost use Rattle.pct_model.specs.declared.limits.TheConstants.{MAX_INPUT};
 ghost use Rattle.pct_model.specs.Lines.{lines_of, strip_cr};
-ghost use Rattle.pct_model.specs.Schedule.{entry_of, read_entry, read_end, with_config, sched_of};
+ghost use Rattle.pct_model.specs.Schedule.{entry_in, read_entry, read_end, with_config, sched_of};
 ghost use Rattle.pct_schedule.specs.declared.fault.ScheduleFault.TheVariants.{NoMemory};
 ghost use Rattle.pct_schedule.specs.Ends.{entries_to, schedule_to};
 ghost use Rattle.pct_schedule.specs.Gives.{Gives, GivesAlways};
@@ -14,8 +14,8 @@ ghost use Rattle.pct_schedule.specs.Prefix.{prefix_of};
 ghost use Rattle.pct_schedule.specs.Schedules.{IsSchedule};
 
 use crate::fault::ScheduleFault;
-use crate::line::{begins_with, entry_of, header_of, is_end};
-use pct_model::{Config, Entry, Keyword, ScheduleWhy, Sequence};
+use crate::line::{begins_with, entry_in, header_of, is_end};
+use pct_model::{Config, Entry, Format, Keyword, ScheduleWhy, Sequence};
 use pct_text::{first_line, strip_cr};
 use std::alloc::Global;
 
@@ -57,16 +57,16 @@ fn find_header(text: &[u8]) -> Option<(u32, &[u8], &[u8])>
 }
 
 // Line `number` as an entry, after `count` entries.
-fn entry_at(number: u32, budget: u32, count: usize, line: &[u8]) -> Result<Entry, ScheduleFault>
-    ensures { GivesAlways (λ entry. entry) result (read_entry number budget count (entry_of line.now)) }
+fn entry_at(number: u32, config: Config, count: usize, line: &[u8]) -> Result<Entry, ScheduleFault>
+    ensures { GivesAlways (λ entry. entry) result (read_entry number config.budget count (entry_in config.format line.now)) }
 {
-    let Some(entry) = entry_of(line) else {
+    let Some(entry) = entry_in(config.format, line) else {
         return Err(ScheduleFault::Refused {
             line: number,
             why: ScheduleWhy::BadEntry,
         });
     };
-    if count < budget as usize {
+    if count < config.budget as usize {
         Ok(entry)
     } else {
         Err(ScheduleFault::Refused {
@@ -106,8 +106,8 @@ fn read_entries(
 ) -> Result<Entries, ScheduleFault>
     requires { lines.first + length lines.text.now < 2 ^ 32 }
     ensures read { Gives (λ entries. (config, entries)) result (with_config config
-        (entries_to end lines.entry.first config.budget 0 (map strip_cr (lines_of lines.entry.text.now)))) }
-    ensures memory { result ≡ Err NoMemory → entry_is_first (lines_of lines.entry.text.now) ≡ true }
+        (entries_to end lines.entry.first config 0 (map strip_cr (lines_of lines.entry.text.now)))) }
+    ensures memory { result ≡ Err NoMemory → entry_is_first config.format (lines_of lines.entry.text.now) ≡ true }
 {
     let mut entries = Vec::new(alloc);
     let mut number = lines.first;
@@ -118,7 +118,7 @@ fn read_entries(
             end_at(number, entries.len(), line, after)?;
             return Ok(Sequence::of(entries));
         }
-        let entry = entry_at(number, config.budget, entries.len(), line)?;
+        let entry = entry_at(number, config, entries.len(), line)?;
         entries.push(entry)?;
         number += 1;
         rest = after;
@@ -162,12 +162,13 @@ fn read_text(alloc: Global, text: &[u8], end: End) -> Result<(Config, Entries), 
 /// The schedule in a text of at most 16,777,216 bytes, which may be a whole report: the numbers under which the run
 /// goes, and its entries.
 ///
-/// The lines before the first line that begins with `schedule ` are skipped. That line is the header, with a budget of
-/// 1 to 200,000, 4 to 16 passes and 1 to 64 slots. After it come the entries, at most as many as the budget, with
-/// workers of at most 16. The last line is `end` with the number of entries.
+/// The lines before the first line that begins with `schedule ` are skipped. That line is the header, with a format of 1
+/// or 2, a budget of 1 to 200,000, 4 to 16 passes and 1 to 64 slots. After the header come the entries, at most as many as
+/// the budget, with workers of at most 16; the choice `expire` is one of format 2 alone. The last line is `end` with the
+/// number of entries.
 ///
 /// `Refused` names the first fault and its line, counted from 1. `NoMemory` is possible only where an entry is stored:
-/// the text has a header with legal numbers, and the line after it is an entry.
+/// the text has a legal header, and the line after it is an entry.
 pub fn read_schedule(alloc: Global, text: &[u8]) -> Result<(Config, Entries), ScheduleFault>
     requires { length text.now ≤ MAX_INPUT }
     ensures read { Gives (λ schedule. (schedule.0, schedule.1)) result (sched_of text.now) }
@@ -181,17 +182,26 @@ pub fn read_schedule(alloc: Global, text: &[u8]) -> Result<(Config, Entries), Sc
 /// entries.
 ///
 /// The text is one that `read_schedule` takes, in which the line `end` with the number of entries may be missing: then
-/// the entries go to the end of the text. A text with no byte has no entry, and its numbers are `Config::DEFAULT`.
+/// the entries go to the end of the text. A text with no byte has no entry; its numbers are those of `Config::DEFAULT`, and
+/// its format is the one given.
 ///
 /// `Refused` and `NoMemory` are as in `read_schedule`.
-pub fn read_prefix(alloc: Global, text: &[u8]) -> Result<(Config, Entries), ScheduleFault>
+pub fn read_prefix(
+    alloc: Global,
+    text: &[u8],
+    format: Format,
+) -> Result<(Config, Entries), ScheduleFault>
     requires { length text.now ≤ MAX_INPUT }
-    ensures read { Gives (λ schedule. (schedule.0, schedule.1)) result (prefix_of text.now) }
+    ensures read { Gives (λ schedule. (schedule.0, schedule.1)) result (prefix_of format text.now) }
     ensures within { IfOk result (λ schedule. IsSchedule schedule.0 schedule.1) }
     ensures memory { result ≡ Err NoMemory → stores_an_entry text.now ≡ true }
 {
     if text.is_empty() {
-        return Ok((Config::DEFAULT, Sequence::of(Vec::new(alloc))));
+        let config = Config {
+            format,
+            ..Config::DEFAULT
+        };
+        return Ok((config, Sequence::of(Vec::new(alloc))));
     }
     read_text(alloc, text, End::Optional)
 }

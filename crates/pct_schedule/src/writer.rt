@@ -36,7 +36,7 @@ fn write_header<K: Sink>(sink: &mut K, config: Config) -> Result<(), Failed>
         sink,
         &[
             Field::Text(Keyword::Schedule.text()),
-            Field::Number(1),
+            Field::Number(config.format.number()),
             Field::Number(config.budget),
             Field::Number(config.passes),
             Field::Number(config.slots),
@@ -172,6 +172,7 @@ fn fields_of(entry: Entry) -> ([Field<'static>; 5], usize)
         Alt::New(n) => (Keyword::New, n, 5),
         Alt::Pick(n) => (Keyword::Pick, n, 5),
         Alt::Dtor(n) => (Keyword::Dtor, n, 5),
+        Alt::Expire => (Keyword::Expire, 0, 4),
     };
     let fields = [
         Field::Number(entry.worker),

@@ -2,7 +2,7 @@
 use Rattle.pct_names.proofs.Names.{◌&&◌, ◌*◌, ◌+◌, ◌++◌, [], and_parts, ap, Argument, argument_kinds_of, argument_texts, ArgumentKind}
 use Rattle.pct_names.proofs.Names.{arguments_of, arith, canon, Contents, contents_of, decimal, declaration_line, encode, false, flat_map}
 use Rattle.pct_names.proofs.Names.{flat_map-cons, Func, function_lines, is_empty, length, length-map, List, list_all, map, nat_le, not}
-use Rattle.pct_names.proofs.Names.{refl, Script, script_lines, SemDecl, statement_lines, statement_words, Stmt, sum_by-cons, SymbolKind}
+use Rattle.pct_names.proofs.Names.{Script, script_lines, SemDecl, statement_lines, statement_words, Stmt, sum_by-cons, SymbolKind}
 use Rattle.pct_names.proofs.Names.{text_of, true, ℕ, ◌∙◌, ◌∷◌, ◌≡◌, ◌≤◌}
 use Rattle.std.proofs.Common.{leb-true}
 use Rattle.pct_model.specs.declared.line_kind.SymbolKind.TheVariants as kind

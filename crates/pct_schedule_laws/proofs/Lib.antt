@@ -2,6 +2,7 @@ pub mod CanonSize
 pub mod FirstMarker
 pub mod PlainWords
 pub mod PlainLines
+pub mod KnownChoices
 pub mod ReadBack
 pub mod ReplayInput
 pub mod ScriptLines

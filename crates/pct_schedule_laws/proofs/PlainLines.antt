@@ -1,10 +1,10 @@
 -- The lines of a report: their words are plain.
 use Rattle.pct_names.proofs.Names.{[], Alt, alt_words, and_parts, Bool, Caller, caller_name, class_of_stop, Config, contents_of, decimal}
 use Rattle.pct_names.proofs.Names.{declaration_syntax, either, end_line, Entry, entry_line, Event, event_line, event_words, false}
-use Rattle.pct_names.proofs.Names.{header_line, Keyword, keyword_text, line_kind_of_caller, LineKind, List, list_all, map, name_at}
-use Rattle.pct_names.proofs.Names.{name_of_stop, names_of_kind, option_map_or, point_name, points, refl, Row, Script, slice_get, stop_words}
-use Rattle.pct_names.proofs.Names.{suc, SymbolKind, syntax_of, thread_text, title_line, true, Verdict, verdict_line, verdict_words, What}
-use Rattle.pct_names.proofs.Names.{Why, zero, ℕ, ◌∷◌, ◌≡◌}
+use Rattle.pct_names.proofs.Names.{format_number, header_line, Keyword, keyword_text, line_kind_of_caller, LineKind, List, list_all, map}
+use Rattle.pct_names.proofs.Names.{name_at, name_of_stop, names_of_kind, option_map_or, point_name, points, refl, Row, Script, slice_get}
+use Rattle.pct_names.proofs.Names.{stop_words, suc, SymbolKind, syntax_of, thread_text, title_line, true, Verdict, verdict_line}
+use Rattle.pct_names.proofs.Names.{verdict_words, What, Why, zero, ℕ, ◌∷◌, ◌≡◌}
 use Rattle.pct_model.specs.declared.line_kind.LineKind.TheVariants as line_kind
 use Rattle.pct_model.specs.declared.line_kind.SymbolKind.TheVariants as kind
 use Rattle.pct_model.specs.declared.event.What.TheVariants as what
@@ -100,6 +100,7 @@ event_plain script (what.Acquired m) = all_plain (fixed keyword.Acquire ∷ name
 event_plain script (what.Released m) = all_plain (fixed keyword.Release ∷ named script kind.Mutex m ∷ [])
 event_plain script (what.Signalled c id) = all_plain (fixed keyword.Signal ∷ named script kind.Cond c ∷ number id ∷ [])
 event_plain script (what.BroadcastTo c n) = all_plain (fixed keyword.Broadcast ∷ named script kind.Cond c ∷ number n ∷ [])
+event_plain script (what.WaitExpired c) = all_plain (fixed keyword.Expire ∷ named script kind.Cond c ∷ [])
 event_plain script (what.WaitCanceled c) = all_plain (fixed keyword.CancelWait ∷ named script kind.Cond c ∷ [])
 event_plain script (what.HandedOn c id) = all_plain (fixed keyword.HandOn ∷ named script kind.Cond c ∷ number id ∷ [])
 event_plain script (what.Taken s) = all_plain (fixed keyword.Take ∷ named script kind.Sem s ∷ [])
@@ -132,9 +133,9 @@ pub verdict_line_plain : (v : Verdict) → are_plain (verdict_line v) ≡ true
 unfolding verdict_line
 verdict_line_plain v = more (keyword_text keyword.Verdict) (verdict_words v) (keyword_plain keyword.Verdict) (verdict_plain v)
 
-pub title_line_plain : are_plain title_line ≡ true
+pub title_line_plain : (c : Config) → are_plain (title_line c) ≡ true
 unfolding title_line
-title_line_plain = all_plain (fixed keyword.Report ∷ number 1 ∷ [])
+title_line_plain c = all_plain (fixed keyword.Report ∷ number (format_number c.format) ∷ [])
 
 pub end_line_plain : (n : ℕ) → are_plain (end_line n) ≡ true
 unfolding end_line
@@ -142,7 +143,7 @@ end_line_plain n = all_plain (fixed keyword.End ∷ number n ∷ [])
 
 pub header_line_plain : (c : Config) → are_plain (header_line c) ≡ true
 unfolding header_line
-header_line_plain c = all_plain (fixed keyword.Schedule ∷ number 1 ∷ number c.budget ∷ number c.passes ∷ number c.slots ∷ [])
+header_line_plain c = all_plain (fixed keyword.Schedule ∷ number (format_number c.format) ∷ number c.budget ∷ number c.passes ∷ number c.slots ∷ [])
 
 alt_plain : (a : Alt) → are_plain (alt_words a) ≡ true
 unfolding alt_words
@@ -151,6 +152,7 @@ alt_plain (alt.Act n) = all_plain (fixed keyword.Act ∷ number n ∷ [])
 alt_plain (alt.New n) = all_plain (fixed keyword.New ∷ number n ∷ [])
 alt_plain (alt.Pick n) = all_plain (fixed keyword.Pick ∷ number n ∷ [])
 alt_plain (alt.Dtor n) = all_plain (fixed keyword.Dtor ∷ number n ∷ [])
+alt_plain alt.Expire = all_plain (fixed keyword.Expire ∷ [])
 
 pub entry_line_plain : (e : Entry) → are_plain (entry_line e) ≡ true
 unfolding entry_line

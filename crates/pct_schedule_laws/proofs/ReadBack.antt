@@ -1,15 +1,16 @@
 -- The schedule of a report is read back from its text.
 use Rattle.pct_names.proofs.Names.{◌&&◌, ◌+◌, ◌++◌, ◌<◌, [], All, All-head, All-tail, Alt, alt_words, and_from, and_parts, ap, arith, Bool}
-use Rattle.pct_names.proofs.Names.{bytes_eq, choice_of, cond, Config, decimal, digits, end_line, Entry, entry_line, entry_of}
-use Rattle.pct_names.proofs.Names.{entry_of_words, Err, Event, event_line, event_words, false, false_from_ne_true, flat_map-cons}
-use Rattle.pct_names.proofs.Names.{header_line, header_of, header_of_words, is_config, is_digit, is_end_of_words, join_with_byte}
-use Rattle.pct_names.proofs.Names.{keyword_text, length, line_text, lines_of, List, list_all, list_all-append, map, MAX_WORKER, nat_eq}
-use Rattle.pct_names.proofs.Names.{nat_le, None, Ok, Option, option_map, option_map_or, refl, report, report_lines, report_of, reverse, Run}
-use Rattle.pct_names.proofs.Names.{run, same_Some, sched_of, Schedule, schedule_lines, Script, Some, split_once, strip_cr, sym, text_of}
-use Rattle.pct_names.proofs.Names.{thread_text, title_line, true, Verdict, verdict_line, verdict_of, verdict_words, words_of, ℕ, ◌∙◌, ◌∷◌}
-use Rattle.pct_names.proofs.Names.{◌≡◌, ◌≤◌}
+use Rattle.pct_names.proofs.Names.{bytes_eq, choice_of, cond, Config, decimal, digits, end_line, Entry, entry_in, entry_line, entry_of}
+use Rattle.pct_names.proofs.Names.{entry_of_words, Err, Event, event_line, event_words, false, false_from_ne_true, flat_map-cons, Format}
+use Rattle.pct_names.proofs.Names.{format_number, format_with, has_choice, header_line, header_of, header_of_words, if_known, is_config}
+use Rattle.pct_names.proofs.Names.{is_digit, is_end_of_words, join_with_byte, keyword_text, length, line_text, lines_of, List, list_all}
+use Rattle.pct_names.proofs.Names.{list_all-append, map, MAX_WORKER, nat_eq, nat_le, None, Ok, Option, option_and_then, option_map}
+use Rattle.pct_names.proofs.Names.{option_map_or, refl, report, report_lines, report_of, reverse, Run, run, same_Some, sched_of, Schedule}
+use Rattle.pct_names.proofs.Names.{schedule_lines, Script, Some, split_once, strip_cr, sym, text_of, thread_text, title_line, true, Verdict}
+use Rattle.pct_names.proofs.Names.{verdict_line, verdict_of, verdict_words, words_of, ℕ, ◌∙◌, ◌∷◌, ◌≡◌, ◌≤◌}
 use Rattle.std.proofs.Common.{append_assoc, append-nil, leb-true, lt-ltb, eq-eqb, true≢false, length-append, le-leb}
 use Rattle.pct_model.specs.declared.schedule.Alt.TheVariants as alt
+use Rattle.pct_model.specs.declared.schedule.Format.TheVariants as format
 use Rattle.pct_model.specs.declared.refusal.ScheduleWhy.TheVariants as why
 use Rattle.pct_model.specs.declared.keyword.Keyword.TheVariants as keyword
 use Rattle.pct_model.specs.Schedule.{begins, is_end}
@@ -25,6 +26,7 @@ use Rattle.pct_schedule.proofs.Splits.{begins_with}
 use Rattle.pct_schedule.proofs.LineByLine.{ended, with_entry, entries_in, with_header, schedule_in}
 use Rattle.pct_schedule.proofs.BySplits.{begins-schedule, begins-end}
 use Rattle.pct_schedule.proofs.ByEntries.{by_lines}
+use Rattle.pct_schedule_laws.proofs.KnownChoices.{is_known, run_known}
 use Rattle.pct_schedule_laws.proofs.PlainWords.{is_plain_byte, is_plain, are_plain, keyword_plain, decimal_plain}
 use Rattle.pct_schedule_laws.proofs.PlainLines.{event_line_plain, verdict_line_plain, title_line_plain, end_line_plain, header_line_plain, entry_line_plain}
 
@@ -134,9 +136,9 @@ verdict_passed : (n : ℕ) (v : Verdict) (lines : List (List (List ℕ))) → sc
 unfolding verdict_line keyword_text
 verdict_passed n v lines = passed_over n (keyword_text keyword.Verdict) (verdict_words v) lines (verdict_line_plain v) refl
 
-title_passed : (n : ℕ) (lines : List (List (List ℕ))) → schedule_in n (lines_of (text_of (title_line ∷ lines))) ≡ schedule_in (n + 1) (lines_of (text_of lines))
+title_passed : (n : ℕ) (c : Config) (lines : List (List (List ℕ))) → schedule_in n (lines_of (text_of (title_line c ∷ lines))) ≡ schedule_in (n + 1) (lines_of (text_of lines))
 unfolding title_line keyword_text
-title_passed n lines = passed_over n (keyword_text keyword.Report) (decimal 1 ∷ []) lines title_line_plain refl
+title_passed n c lines = passed_over n (keyword_text keyword.Report) (decimal (format_number c.format) ∷ []) lines (title_line_plain c) refl
 
 -- ---- the header
 
@@ -158,23 +160,24 @@ in_limits c is =
       slots = leb-true c.slots 64 a.1;
     }
 
-one_is_one : decimal 1 ≡ 49 ∷ []
+format_again : (format : Format) → format_with (decimal (format_number format)) ≡ Some format
 unfolding digits
-one_is_one = refl
+format_again format.One = refl
+format_again format.Two = refl
 
 header_again : (c : Config) → is_config c ≡ true → header_of (join_with_byte 32 (header_line c)) ≡ Some c
 unfolding header_of header_line
 header_again c is =
     let limits = in_limits c is in
-    ap header_of_words (words_again (keyword_text keyword.Schedule) (decimal 1 ∷ decimal c.budget ∷ decimal c.passes ∷ decimal c.slots ∷ []) (header_line_plain c))
-    ∙ rw (bytes_eq-refl (keyword_text keyword.Schedule), one_is_one, number_again c.budget (omega (arith, limits.budget)), number_again c.passes (omega (arith, limits.passes)), number_again c.slots (omega (arith, limits.slots)))
+    ap header_of_words (words_again (keyword_text keyword.Schedule) (decimal (format_number c.format) ∷ decimal c.budget ∷ decimal c.passes ∷ decimal c.slots ∷ []) (header_line_plain c))
+    ∙ rw (bytes_eq-refl (keyword_text keyword.Schedule), format_again c.format, number_again c.budget (omega (arith, limits.budget)), number_again c.passes (omega (arith, limits.passes)), number_again c.slots (omega (arith, limits.slots)))
     (ap (λ (b : Bool). cond b (Some c) None) is)
 
 header_found : (n : ℕ) (c : Config) (lines : List (List (List ℕ))) → is_config c ≡ true → schedule_in n (lines_of (text_of (header_line c ∷ lines))) ≡ entries_in (n + 1) c [] (lines_of (text_of lines))
 unfolding header_line
 header_found n c lines is =
     by_line n (header_line c) lines true (header_line_plain c)
-    (by_first_word (keyword_text keyword.Schedule) (keyword_text keyword.Schedule) (decimal 1) (decimal c.budget ∷ decimal c.passes ∷ decimal c.slots ∷ []) (keyword_plain keyword.Schedule) ∙ bytes_eq-refl (keyword_text keyword.Schedule))
+    (by_first_word (keyword_text keyword.Schedule) (keyword_text keyword.Schedule) (decimal (format_number c.format)) (decimal c.budget ∷ decimal c.passes ∷ decimal c.slots ∷ []) (keyword_plain keyword.Schedule) ∙ bytes_eq-refl (keyword_text keyword.Schedule))
     ∙ ap (λ (o : Option Config). with_header n o (lines_of (text_of lines))) (header_again c is)
 
 -- ---- entries
@@ -186,6 +189,7 @@ choice_again (alt.Act n) is = rw (number_again n (leb-true n 4294967295 is)) ref
 choice_again (alt.New n) is = rw (number_again n (leb-true n 4294967295 is)) refl
 choice_again (alt.Pick n) is = rw (number_again n (leb-true n 4294967295 is)) refl
 choice_again (alt.Dtor n) is = rw (number_again n (leb-true n 4294967295 is)) refl
+choice_again alt.Expire is = refl
 
 -- the limits of an entry
 pub record FitsEntry (e : Entry) : Type 0 where
@@ -201,18 +205,21 @@ fits_entry e is =
     let c = and_parts (nat_le e.worker 16) (fits e.pid) b.0 in
     record { worker = c.0; pid = leb-true e.pid 4294967295 c.1; tid = leb-true e.tid 4294967295 b.1; choice = a.1 }
 
-entry_again : (e : Entry) → is_entry e ≡ true → entry_of (join_with_byte 32 (entry_line e)) ≡ Some e
+entry_of_again : (e : Entry) → is_entry e ≡ true → entry_of (join_with_byte 32 (entry_line e)) ≡ Some e
 unfolding entry_of entry_line
-entry_again e is =
+entry_of_again e is =
     let these = fits_entry e is in
     let few : e.worker ≤ 16 = leb-true e.worker 16 these.worker in
     ap entry_of_words (words_again (decimal e.worker) (decimal e.pid ∷ decimal e.tid ∷ alt_words e.alt) (entry_line_plain e))
     ∙ rw (number_again e.worker (omega arith), number_again e.pid these.pid, number_again e.tid these.tid, choice_again e.alt these.choice, these.worker) refl
 
+entry_again : (format : Format) (e : Entry) → is_entry e ≡ true → has_choice format e.alt ≡ true → entry_in format (join_with_byte 32 (entry_line e)) ≡ Some e
+entry_again format e is known = ap (λ (o : Option Entry). option_and_then (if_known format) o) (entry_of_again e is) ∙ ap (λ (b : Bool). cond b (Some e) None) known
+
 abbrev at_entry : ℕ → Config → List Entry → List (List ℕ) → List ℕ → Bool → Schedule
 at_entry n config entries lines line last =
     cond last (cond (is_end (length entries) line) (ended (n + 1) config entries lines) (Err (n, why.BadEnd)))
-    (with_entry n config (length entries) (entry_of line) (λ e. entries_in (n + 1) config (entries ++ e ∷ []) lines))
+    (with_entry n config (length entries) (entry_in config.format line) (λ e. entries_in (n + 1) config (entries ++ e ∷ []) lines))
 
 by_entry_line : (n : ℕ) (config : Config) (entries : List Entry) (words : List (List ℕ)) (lines : List (List (List ℕ))) (last : Bool) → are_plain words ≡ true
     → begins_with (keyword_text keyword.End) (join_with_byte 32 words) ≡ last
@@ -228,15 +235,15 @@ end_is_no_number : list_all is_digit (keyword_text keyword.End) ≡ false
 unfolding keyword_text
 end_is_no_number = refl
 
-entry_read : (n : ℕ) (config : Config) (prefix : List Entry) (e : Entry) (lines : List (List (List ℕ))) → is_entry e ≡ true → length prefix < config.budget
+entry_read : (n : ℕ) (config : Config) (prefix : List Entry) (e : Entry) (lines : List (List (List ℕ))) → is_entry e ≡ true → is_known config e ≡ true → length prefix < config.budget
     → entries_in n config prefix (lines_of (text_of (entry_line e ∷ lines))) ≡ entries_in (n + 1) config (prefix ++ e ∷ []) (lines_of (text_of lines))
 unfolding entry_line
-entry_read n config prefix e lines is within =
+entry_read n config prefix e lines is known within =
     let after = lines_of (text_of lines) in
     let go : Entry → Schedule = λ x. entries_in (n + 1) config (prefix ++ x ∷ []) after in
     by_entry_line n config prefix (entry_line e) lines false (entry_line_plain e)
     (begins_otherwise (keyword_text keyword.End) (decimal e.worker) (decimal e.pid ∷ decimal e.tid ∷ alt_words e.alt) (decimal_plain e.worker) (apart is_digit (decimal e.worker) (keyword_text keyword.End) (digits_of_decimal e.worker) end_is_no_number))
-    ∙ ap (λ (o : Option Entry). with_entry n config (length prefix) o go) (entry_again e is)
+    ∙ ap (λ (o : Option Entry). with_entry n config (length prefix) o go) (entry_again config.format e is known)
     ∙ ap (λ (b : Bool). cond b (go e) (Err (n, why.TooMany))) (lt-ltb (length prefix) config.budget within)
 
 end_again : (n total : ℕ) → n ≡ total → total ≤ 4294967295 → is_end n (join_with_byte 32 (end_line total)) ≡ true
@@ -254,16 +261,17 @@ end_read n total config prefix same few =
     ∙ ap (λ (lines : List (List ℕ)). cond (is_end (length prefix) line) (ended (n + 1) config prefix lines) (Err (n, why.BadEnd))) lines_of-nil
     ∙ ap (λ (b : Bool). cond b (Ok (config, prefix)) (Err (n, why.BadEnd))) (end_again (length prefix) total same few)
 
-entries_again : (total : ℕ) (config : Config) (entries : List Entry) → total ≤ config.budget → total ≤ 4294967295 → list_all is_entry entries ≡ true
+entries_again : (total : ℕ) (config : Config) (entries : List Entry) → total ≤ config.budget → total ≤ 4294967295 → list_all is_entry entries ≡ true → list_all (is_known config) entries ≡ true
     → (n : ℕ) (prefix : List Entry) → length prefix + length entries ≡ total
     → entries_in n config prefix (lines_of (text_of (map entry_line entries ++ (end_line total ∷ [])))) ≡ Ok (config, prefix ++ entries)
-entries_again total config [] most few all n prefix same =
+entries_again total config [] most few all known n prefix same =
     end_read n total config prefix (omega (arith, same)) few ∙ ap (λ (es : List Entry). Ok (config, es)) (sym (append-nil prefix))
-entries_again total config (e ∷ entries) most few all n prefix same =
+entries_again total config (e ∷ entries) most few all known n prefix same =
     let parts = and_parts (is_entry e) (list_all is_entry entries) all in
+    let choices = and_parts (is_known config e) (list_all (is_known config) entries) known in
     let more : length (prefix ++ e ∷ []) + length entries ≡ total = omega (arith, length-append prefix (e ∷ []), same) in
-    entry_read n config prefix e (map entry_line entries ++ (end_line total ∷ [])) parts.0 (omega arith)
-    ∙ entries_again total config entries most few parts.1 (n + 1) (prefix ++ e ∷ []) more
+    entry_read n config prefix e (map entry_line entries ++ (end_line total ∷ [])) parts.0 choices.0 (omega arith)
+    ∙ entries_again total config entries most few parts.1 choices.1 (n + 1) (prefix ++ e ∷ []) more
     ∙ ap (λ (es : List Entry). Ok (config, es)) (append_assoc prefix (e ∷ []) entries)
 
 -- ---- reports
@@ -273,7 +281,7 @@ unfolding schedule_lines
 schedule_again config entries is n =
     let limits = in_limits config is.config_fits in
     header_found n config (map entry_line entries ++ (end_line (length entries) ∷ [])) is.config_fits
-    ∙ entries_again (length entries) config entries is.few (omega (arith, is.few, limits.budget)) is.each (n + 1) [] (omega arith)
+    ∙ entries_again (length entries) config entries is.few (omega (arith, is.few, limits.budget)) is.each is.known (n + 1) [] (omega arith)
 
 grouped : {A : Type 0} (a : A) (bs : List A) (c : A) (ds : List A) → (a ∷ []) ++ bs ++ (c ∷ []) ++ ds ≡ a ∷ (bs ++ (c ∷ ds))
 grouped a bs c ds = ap (λ xs. a ∷ xs) (append_assoc bs (c ∷ []) ds)
@@ -285,8 +293,8 @@ report_again script config events v entries is =
     let schedule = schedule_lines config entries in
     let encoded = map (event_line script) events in
     by_lines (text_of (report_lines script config events v entries))
-    ∙ ap (λ (lines : List (List (List ℕ))). schedule_in 1 (lines_of (text_of lines))) (grouped title_line encoded (verdict_line v) schedule)
-    ∙ title_passed 1 (encoded ++ (verdict_line v ∷ schedule))
+    ∙ ap (λ (lines : List (List (List ℕ))). schedule_in 1 (lines_of (text_of lines))) (grouped (title_line config) encoded (verdict_line v) schedule)
+    ∙ title_passed 1 config (encoded ++ (verdict_line v ∷ schedule))
     ∙ events_passed script events (verdict_line v ∷ schedule) (Ok (config, entries)) (λ n. verdict_passed n v schedule ∙ schedule_again config entries is (n + 1)) 2
 
 -- ---- runs
@@ -297,6 +305,7 @@ choice_fits (alt.Act n) within = le-leb n 4294967295 within
 choice_fits (alt.New n) within = le-leb n 4294967295 within
 choice_fits (alt.Pick n) within = le-leb n 4294967295 within
 choice_fits (alt.Dtor n) within = le-leb n 4294967295 within
+choice_fits alt.Expire within = refl
 
 entry_fits : (e : Entry) → IsEntryWithin 4294967295 e → is_entry e ≡ true
 entry_fits e within =
@@ -314,7 +323,7 @@ entries_fit (e ∷ entries) all =
 pub run_is_schedule : (script : Script) (config : Config) (entries : List Entry) (after : Run) → run script config entries ≡ Some after → IsSchedule config entries
 run_is_schedule script config entries after is =
     let parts = run_parts script config entries after is in
-    record { config_fits = parts.limits; few = parts.within; each = entries_fit entries (run_numbers_fit script config entries after is) }
+    record { config_fits = parts.limits; few = parts.within; each = entries_fit entries (run_numbers_fit script config entries after is); known = run_known script config entries after is }
 
 by_run : (script : Script) (config : Config) (entries : List Entry) (text : List ℕ) (o : Option Run) → run script config entries ≡ o → option_map (report_of script config entries) o ≡ Some text → sched_of text ≡ Ok (config, entries)
 by_run script config entries text None ran e = absurd cc

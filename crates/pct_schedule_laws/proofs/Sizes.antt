@@ -1,9 +1,10 @@
 -- The greatest size of a schedule's text.
 use Rattle.pct_names.proofs.Names.{◌*◌, ◌+◌, ◌++◌, [], Alt, alt_words, and_parts, ap, arith, Config, decimal, end_line, Entry, entry_line}
-use Rattle.pct_names.proofs.Names.{flat_map, flat_map-cons, header_line, join_with_byte, keyword_text, length, length-decimal-le, line_text}
-use Rattle.pct_names.proofs.Names.{List, list_all, schedule_lines, text_of, true, ℕ, ◌∙◌, ◌∷◌, ◌≡◌, ◌≤◌}
+use Rattle.pct_names.proofs.Names.{flat_map, flat_map-cons, Format, format_number, header_line, join_with_byte, keyword_text, length}
+use Rattle.pct_names.proofs.Names.{length-decimal-le, line_text, List, list_all, schedule_lines, text_of, true, ℕ, ◌∙◌, ◌∷◌, ◌≡◌, ◌≤◌}
 use Rattle.std.proofs.Common.{leb-true, length-append}
 use Rattle.pct_model.specs.declared.schedule.Alt.TheVariants as alt
+use Rattle.pct_model.specs.declared.schedule.Format.TheVariants as format
 use Rattle.pct_schedule.specs.Schedules.{is_choice, is_entry, IsSchedule}
 use Rattle.pct_schedule_laws.proofs.ReadBack.{InLimits, in_limits, FitsEntry, fits_entry}
 use Rattle.pct_schedule.proofs.ScheduleTexts.{schedule-text}
@@ -37,6 +38,7 @@ alt_size (alt.Act n) is = omega (arith, number_size n (leb-true n 4294967295 is)
 alt_size (alt.New n) is = omega (arith, number_size n (leb-true n 4294967295 is))
 alt_size (alt.Pick n) is = omega (arith, number_size n (leb-true n 4294967295 is))
 alt_size (alt.Dtor n) is = omega (arith, number_size n (leb-true n 4294967295 is))
+alt_size alt.Expire is = omega arith
 
 entry_words_size : (e : Entry) → FitsEntry e → words_size (entry_line e) ≤ 50
 unfolding words_size entry_line
@@ -55,10 +57,14 @@ entries_size (e ∷ entries) all =
     let whole : length (flat_map text (e ∷ entries)) ≡ length (text e) + length (flat_map text entries) = ap length (flat_map-cons text e entries) ∙ length-append (text e) (flat_map text entries) in
     omega (arith, whole, entry_size e parts.0, entries_size entries parts.1)
 
+format_fits : (format : Format) → format_number format ≤ 4294967295
+format_fits format.One = omega arith
+format_fits format.Two = omega arith
+
 header_words_size : (c : Config) → InLimits c → words_size (header_line c) ≤ 54
 unfolding words_size header_line keyword_text
 header_words_size c limits =
-    omega (arith, number_size 1 (omega arith), number_size c.budget (omega (arith, limits.budget)), number_size c.passes (omega (arith, limits.passes)), number_size c.slots (omega (arith, limits.slots)))
+    omega (arith, number_size (format_number c.format) (format_fits c.format), number_size c.budget (omega (arith, limits.budget)), number_size c.passes (omega (arith, limits.passes)), number_size c.slots (omega (arith, limits.slots)))
 
 end_words_size : (n : ℕ) → n ≤ 4294967295 → words_size (end_line n) ≤ 16
 unfolding words_size end_line keyword_text

@@ -154,9 +154,18 @@ pub(crate) fn decode(line_kind: LineKind, arguments: &[Argument]) -> Stmt
             cond: item(arguments, 0),
             mutex: item(arguments, 1),
         },
+        LineKind::CondTimedWait => Stmt::CondTimedWait {
+            result: dest(arguments, 0),
+            cond: item(arguments, 1),
+            mutex: item(arguments, 2),
+        },
         LineKind::Signal => Stmt::Signal(item(arguments, 0)),
         LineKind::Broadcast => Stmt::Broadcast(item(arguments, 0)),
         LineKind::SemWait => Stmt::SemWait(item(arguments, 0)),
+        LineKind::SemTimedWait => Stmt::SemTimedWait {
+            result: dest(arguments, 0),
+            sem: item(arguments, 1),
+        },
         LineKind::SemPost => Stmt::SemPost(item(arguments, 0)),
         LineKind::AtFork => Stmt::AtFork {
             result: dest(arguments, 0),

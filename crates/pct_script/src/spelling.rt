@@ -73,6 +73,7 @@ fn kinds_by_length(length: usize) -> &'static [LineKind] {
         7 => &[LineKind::WaitPid],
         8 => &[LineKind::SemWait, LineKind::SemPost],
         12 => &[LineKind::Join, LineKind::SelfId, LineKind::ThreadExit],
+        13 => &[LineKind::SemTimedWait],
         14 => &[
             LineKind::Create,
             LineKind::Detach,
@@ -94,7 +95,11 @@ fn kinds_by_length(length: usize) -> &'static [LineKind] {
         ],
         20 => &[LineKind::Unlock, LineKind::Push],
         21 => &[LineKind::SetMode],
-        22 => &[LineKind::SetState, LineKind::Broadcast],
+        22 => &[
+            LineKind::SetState,
+            LineKind::Broadcast,
+            LineKind::CondTimedWait,
+        ],
         _ => &[],
     }
 }

@@ -1,6 +1,6 @@
 -- Entries that were chosen, in histories that grow.
-use Rattle.pct_names.proofs.Names.{◌+◌, ◌++◌, ◌<◌, [], All, ap, arith, Config, Entry, get_or, get_or-append-add, length, List, refl, Run}
-use Rattle.pct_names.proofs.Names.{run, Script, slice_get, slice_get-get_or, Some, subst, suc, sym, take-append-le, zero, ℕ, ◌∙◌, ◌∷◌, ◌≡◌}
+use Rattle.pct_names.proofs.Names.{◌+◌, ◌++◌, ◌<◌, All, ap, arith, Config, Entry, get_or, get_or-append-add, length, List, Run}
+use Rattle.pct_names.proofs.Names.{run, Script, slice_get-get_or, Some, subst, sym, take-append-le, ℕ, ◌∙◌, ◌≡◌}
 use Rattle.std.proofs.Common.{length-append}
 use Rattle.pct_scheduled_run.specs.ScheduledRuns.{AreChosenBy, IsChosenAt}
 use Rattle.pct_scheduled_run.proofs.ContinuedRuns.{get_front}

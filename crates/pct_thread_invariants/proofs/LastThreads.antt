@@ -87,7 +87,7 @@ module _ (script : Script) (config : Config) (w : World) (p : Process) (e : Entr
 
   -- what it sees of the others
   abbrev seen : Environment
-  seen = environment_of config.slots w p t.id
+  seen = environment_of config w p t.id
 
   -- its transition, by case
   its_case : TransitionCase config.passes (body_at script t.frames) p.shared t seen true (next_of script t.frames) t.status o

@@ -1,13 +1,14 @@
 -- What every run keeps of each thread: the rule of the thread, and so the sentences of Kept.antt.
-use Rattle.pct_names.proofs.Names.{◌&&◌, Alt, ap, Bool, Cause, choices_of, cond, Config, Entry, false, false≢true, Frame, has_left_wait}
-use Rattle.pct_names.proofs.Names.{has_valid_id, inl, inr, is_ended_status, is_forking, is_waiting_on, key_place, List, made_process}
-use Rattle.pct_names.proofs.Names.{main_of, named_after, NamedAction, names_of, None, not, offers, Option, option_and_then, Process, Reason}
-use Rattle.pct_names.proofs.Names.{refl, reverse, Run, run, Script, Some, Status, subst, sym, Thread, thread_with, transition_by, true}
-use Rattle.pct_names.proofs.Names.{unblocked, World, ℕ, ◌∙◌, ◌≡◌}
+use Rattle.pct_names.proofs.Names.{◌&&◌, Alt, ap, Bool, Cause, choices_of, cond, Config, Entry, false, false≢true, Frame, has_valid_id, inl}
+use Rattle.pct_names.proofs.Names.{inr, is_ended_status, is_forking, is_waiting_on, key_place, List, made_process, main_of, named_after}
+use Rattle.pct_names.proofs.Names.{NamedAction, names_of, None, not, offers, Option, option_and_then, Process, Reason, refl, reverse, Run}
+use Rattle.pct_names.proofs.Names.{run, Script, Some, Status, subst, sym, Thread, thread_with, transition_by, true, unblocked, World, ℕ}
+use Rattle.pct_names.proofs.Names.{◌∙◌, ◌≡◌}
 use Rattle.pct_model.specs.declared.state.Cause.TheVariants as cause
 use Rattle.pct_model.specs.declared.state.FrameKind.TheVariants as kind
 use Rattle.pct_model.specs.declared.state.Status.TheVariants as status
 use Rattle.pct_model.specs.declared.transition.NamedAction.TheVariants as named_action
+use Rattle.pct_transition_cases.proofs.TransitionCases.{is_wake_up}
 use Rattle.pct_laws.specs.Kept.{is_exiting, ThreadKept, KeysKept}
 use Rattle.pct_laws.specs.Each.{each}
 use Rattle.pct_laws.specs.Once.{may_come, allows}
@@ -39,25 +40,27 @@ module _ (script : Script) (passes : ℕ) where
   named_if false changed t s changed_fits fits = fits
 
   -- one that is unblocked by a signal or a broadcast: where it is suspended stays the same
-  unblocked_by : (why : Cause) → ((c m : ℕ) → has_left_wait (status.Reacquire c m why) ≡ false) → (st : Status) (reason : Reason) (frames : List Frame) (handlers : List (ℕ × ℕ)) (s : ThreadSummary) → ByStatus script st reason frames handlers s → ByStatus script (unblocked why st) reason frames handlers s
-  unblocked_by why stays (status.Waiting c m) reason frames handlers s by = (by.0, by.1, λ leaves. absurd (false≢true (sym (stays c m) ∙ leaves)))
-  unblocked_by why stays _ reason frames handlers s by = by
+  unblocked_by : (why : Cause) → is_wake_up why ≡ true → (st : Status) (reason : Reason) (frames : List Frame) (handlers : List (ℕ × ℕ)) (s : ThreadSummary) → ByStatus script st reason frames handlers s → ByStatus script (unblocked why st) reason frames handlers s
+  unblocked_by cause.Signalled woken (status.Waiting c m) reason frames handlers s by = (by.0, by.1, λ leaves. absurd (false≢true leaves))
+  unblocked_by cause.Broadcast woken (status.Waiting c m) reason frames handlers s by = (by.0, by.1, λ leaves. absurd (false≢true leaves))
+  unblocked_by _ woken (status.Waiting c m) reason frames handlers s by = absurd (false≢true woken)
+  unblocked_by why woken _ reason frames handlers s by = by
 
-  any_unblocked : (why : Cause) → ((c m : ℕ) → has_left_wait (status.Reacquire c m why) ≡ false) → (st : Status) (reason : Reason) (frames : List Frame) (handlers : List (ℕ × ℕ)) (s : ThreadSummary) → ByAnyStatus script st reason frames handlers s → ByAnyStatus script (unblocked why st) reason frames handlers s
-  any_unblocked why stays st reason frames handlers s (inl by) = inl (unblocked_by why stays st reason frames handlers s by)
-  any_unblocked why stays status.Running reason frames handlers s (inr exits) = inr exits
-  any_unblocked why stays _ reason frames handlers s (inr exits) = absurd exits
+  any_unblocked : (why : Cause) → is_wake_up why ≡ true → (st : Status) (reason : Reason) (frames : List Frame) (handlers : List (ℕ × ℕ)) (s : ThreadSummary) → ByAnyStatus script st reason frames handlers s → ByAnyStatus script (unblocked why st) reason frames handlers s
+  any_unblocked why woken st reason frames handlers s (inl by) = inl (unblocked_by why woken st reason frames handlers s by)
+  any_unblocked why woken status.Running reason frames handlers s (inr exits) = inr exits
+  any_unblocked why woken _ reason frames handlers s (inr exits) = absurd exits
 
-  unblocked_fits : (why : Cause) → ((c m : ℕ) → has_left_wait (status.Reacquire c m why) ≡ false) → (t : Thread) (s : ThreadSummary) → FitsAny script passes t s → FitsAny script passes (record t { status = unblocked why t.status }) s
-  unblocked_fits why stays t s fits = record { agrees = fits.agrees; placed = fits.placed; by_status = any_unblocked why stays t.status t.reason t.frames t.handlers s fits.by_status; in_passes = fits.in_passes }
+  unblocked_fits : (why : Cause) → is_wake_up why ≡ true → (t : Thread) (s : ThreadSummary) → FitsAny script passes t s → FitsAny script passes (record t { status = unblocked why t.status }) s
+  unblocked_fits why woken t s fits = record { agrees = fits.agrees; placed = fits.placed; by_status = any_unblocked why woken t.status t.reason t.frames t.handlers s fits.by_status; in_passes = fits.in_passes }
 
   named_fits : (a : Option NamedAction) (t : Thread) (s : ThreadSummary) → FitsAny script passes t s → FitsAny script passes (named_after a t) s
   unfolding named_after
   named_fits (Some (named_action.EndJoin id)) t s fits = named_if (has_valid_id id t) (record t { joined = true }) t s fits fits
   named_fits (Some (named_action.Request id)) t s fits = named_if (has_valid_id id t && not t.ended) (record t { pending = true }) t s fits fits
   named_fits (Some (named_action.Detach id)) t s fits = named_if (has_valid_id id t) (record t { detached = true }) t s fits fits
-  named_fits (Some (named_action.Wake id)) t s fits = named_if (has_valid_id id t) (record t { status = unblocked cause.Signalled t.status }) t s (unblocked_fits cause.Signalled (λ c m. refl) t s fits) fits
-  named_fits (Some (named_action.WakeAll c)) t s fits = named_if (is_waiting_on c t.status) (record t { status = unblocked cause.Broadcast t.status }) t s (unblocked_fits cause.Broadcast (λ c m. refl) t s fits) fits
+  named_fits (Some (named_action.Wake id)) t s fits = named_if (has_valid_id id t) (record t { status = unblocked cause.Signalled t.status }) t s (unblocked_fits cause.Signalled refl t s fits) fits
+  named_fits (Some (named_action.WakeAll c)) t s fits = named_if (is_waiting_on c t.status) (record t { status = unblocked cause.Broadcast t.status }) t s (unblocked_fits cause.Broadcast refl t s fits) fits
   named_fits (Some (named_action.ForgetKey k)) t s fits = record {
     agrees = fits.agrees;
     placed = fits.placed;

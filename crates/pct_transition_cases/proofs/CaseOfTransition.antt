@@ -2,25 +2,27 @@
 use Rattle.pct_names.proofs.Names.{◌&&◌, ◌++◌, ◌<◌, [], acts, acts_on_request, acts_or, adds, after_block, after_end, after_test, Alt, ap}
 use Rattle.pct_names.proofs.Names.{arith, AsyncCall, begins_fork, begins_join, begins_sem_wait, begins_wait, begins_waitpid, Bool}
 use Rattle.pct_names.proofs.Names.{broadcasts, called_kind, calls, calls_destructor, calls_handler, calls_point, Cause, choices_at, cond}
-use Rattle.pct_names.proofs.Names.{cond_wait_point, creates, creates_by, creates_key, creates_key_by, deletes_key, Dest, detaches, due_keys}
-use Rattle.pct_names.proofs.Names.{EAGAIN, emits, end_value, ends_block, ends_by_exit, ends_join, ends_now, ends_sem_wait, ends_thread}
-use Rattle.pct_names.proofs.Names.{Environment, eqb-false, exit_value_of, exits, exits_twice, fails_to_create, fails_to_create_key, false}
-use Rattle.pct_names.proofs.Names.{find, finds_no_child, first_stop, ForkAt, ForkChildCall, forks_by, Frame, FrameKind, gets_self}
-use Rattle.pct_names.proofs.Names.{gets_specific, goes_on, goes_on_after_handlers, goes_on_ending, goes_on_exiting, goes_on_forking}
-use Rattle.pct_names.proofs.Names.{HandlerCall, hands_on, has_begun_to_end, inl, inr, is_allowed_asynchronously, is_asynchronous}
-use Rattle.pct_names.proofs.Names.{is_deliverable, is_forbidden_in_child, is_in_handler, is_none, is_required, is_some, is_stack_full}
-use Rattle.pct_names.proofs.Names.{join_point, joins_at, jumps, Key, key_place, key_with, leaves_handler, leaves_wait, left_keys, length}
-use Rattle.pct_names.proofs.Names.{List, list_any, locks, MAX_FORK_HANDLERS, MAX_FRAMES, MAX_HANDLERS, may_register, nat_eq, nat_lt}
-use Rattle.pct_names.proofs.Names.{next_handler, NextStatement, None, none-some, not, not-false, not-true, offers, open_of, Operand, Option}
-use Rattle.pct_names.proofs.Names.{option_and_then, option_map, option_map_or, Optional, or_parts, owns, Parent, passes_point, Phase}
-use Rattle.pct_names.proofs.Names.{point_kind, PointKind, points, pops, pos_of_ne-zero, posts, Prepare, pushes, reacquires, reaps, reaps_if}
-use Rattle.pct_names.proofs.Names.{refl, registers_fork, registers_if, requests, Required, returns_by, returns_in_child, returns_in_parent}
-use Rattle.pct_names.proofs.Names.{runs, sem_wait_point, sets, sets_mode, sets_specific, sets_state, SharedState, signals_by, slice_index}
-use Rattle.pct_names.proofs.Names.{Some, StatementIn, Status, Stmt, stop_at, stops_of, stops_or, StopTest, subst, suc, sym}
-use Rattle.pct_names.proofs.Names.{testcancel_point, tests_cancel, Thread, Transition, transition_at, true, unlocks, value_at, value_of}
-use Rattle.pct_names.proofs.Names.{waitpid_point, waits_at, waits_with_another_mutex, Why, ◌||◌, ℕ, ◌∙◌, ◌∷◌, ◌≡◌, ◌≤◌}
+use Rattle.pct_names.proofs.Names.{cond_timedwait_point, cond_wait_point, creates, creates_by, creates_key, creates_key_by, deletes_key}
+use Rattle.pct_names.proofs.Names.{Dest, detaches, due_keys, EAGAIN, emits, end_value, ends_block, ends_by_exit, ends_join, ends_now}
+use Rattle.pct_names.proofs.Names.{ends_sem_wait, ends_thread, Environment, eqb-false, exit_value_of, exits, exits_twice, expires}
+use Rattle.pct_names.proofs.Names.{fails_to_create, fails_to_create_key, false, find, finds_no_child, first_stop, ForkAt, ForkChildCall}
+use Rattle.pct_names.proofs.Names.{forks_by, Frame, FrameKind, gets_self, gets_specific, goes_on, goes_on_after_handlers, goes_on_ending}
+use Rattle.pct_names.proofs.Names.{goes_on_exiting, goes_on_forking, HandlerCall, hands_on, has_begun_to_end, inl, inr}
+use Rattle.pct_names.proofs.Names.{is_allowed_asynchronously, is_asynchronous, is_deliverable, is_forbidden_in_child, is_in_handler}
+use Rattle.pct_names.proofs.Names.{is_none, is_required, is_some, is_stack_full, is_timed_wait, join_point, joins_at, jumps, Key, key_place}
+use Rattle.pct_names.proofs.Names.{key_with, leaves_handler, leaves_wait, left_keys, length, List, list_any, locks, MAX_FORK_HANDLERS}
+use Rattle.pct_names.proofs.Names.{MAX_FRAMES, MAX_HANDLERS, may_register, nat_eq, nat_lt, next_handler, NextStatement, None, none-some}
+use Rattle.pct_names.proofs.Names.{not, not-false, not-true, offers, open_of, Operand, Option, option_and_then, option_map, option_map_or}
+use Rattle.pct_names.proofs.Names.{Optional, or_parts, owns, Parent, passes_point, Phase, point_kind, PointKind, points, pops}
+use Rattle.pct_names.proofs.Names.{pos_of_ne-zero, posts, Prepare, pushes, reacquires, reaps, reaps_if, refl, registers_fork, registers_if}
+use Rattle.pct_names.proofs.Names.{requests, Required, returns_by, returns_in_child, returns_in_parent, runs, sem_timedwait_point}
+use Rattle.pct_names.proofs.Names.{sem_wait_point, sets, sets_mode, sets_specific, sets_state, SharedState, signals_by, slice_index, Some}
+use Rattle.pct_names.proofs.Names.{StatementIn, Status, Stmt, stop_at, stops_of, stops_or, StopTest, subst, suc, sym, testcancel_point}
+use Rattle.pct_names.proofs.Names.{tests_cancel, Thread, Transition, transition_at, true, unlocks, value_at, value_of, waitpid_point}
+use Rattle.pct_names.proofs.Names.{waits_at, waits_with_another_mutex, Why, ◌||◌, ℕ, ◌∙◌, ◌∷◌, ◌≡◌, ◌≤◌}
 use Rattle.std.proofs.Common.{eqb-true}
 use Rattle.std.proofs.lemmas.Bool.{true≢false, ltb-true, ltb-false}
+use Rattle.pct_model.specs.ChoiceTable.{is_expire}
 use Rattle.pct_model.specs.declared.event.Caller.TheVariants as caller
 use Rattle.pct_model.specs.declared.event.What.TheVariants as what
 use Rattle.pct_model.specs.declared.process.Child.{Child}
@@ -33,7 +35,8 @@ use Rattle.pct_model.specs.declared.statement.Stmt.TheVariants as statement
 use Rattle.pct_model.specs.declared.transition.NamedAction.TheVariants as named_action
 use Rattle.pct_model.specs.declared.transition.OwnAction.TheVariants as own_action
 use Rattle.pct_model.specs.declared.transition.SharedAction.TheVariants as shared_action
-use Rattle.pct_transition_cases.proofs.OfferedChoices.{is_acting, goes_at, Offered, offered_alive, may_go_on, act_delivered}
+use Rattle.pct_transition_cases.proofs.OfferedChoices.{is_acting, goes_at, may_have_time, Offered, offered_alive, may_go_on}
+use Rattle.pct_transition_cases.proofs.OfferedChoices.{may_go_on_untimed, may_expire_in_wait, expired_before, act_delivered}
 use Rattle.pct_transition_cases.proofs.OfferedChoices.{act_where_it_may, heir_among, picked_among, id_among, key_among, left_among}
 use Rattle.pct_transition_cases.proofs.OfferedChoices.{offered_of, free_to_lock, gone_on_at_required, no_key_left}
 use Rattle.pct_transition_cases.proofs.TransitionCases.{past_nop, past_if, past_while, past_else, past_end, Returns, by_return, by_end}
@@ -43,16 +46,18 @@ use Rattle.pct_transition_cases.proofs.TransitionCases.{exit_function_left, thre
 use Rattle.pct_transition_cases.proofs.TransitionCases.{thread_detached, self_got, request_sent, state_set, mode_set, cancel_tested}
 use Rattle.pct_transition_cases.proofs.TransitionCases.{point_begun, point_done, point_passed, canceled, canceled_at_point}
 use Rattle.pct_transition_cases.proofs.TransitionCases.{canceled_in_join, canceled_in_sem_wait, canceled_in_waitpid, mutex_locked}
-use Rattle.pct_transition_cases.proofs.TransitionCases.{mutex_unlocked, wait_begun, wait_ended, canceled_in_wait, canceled_after_wait}
+use Rattle.pct_transition_cases.proofs.TransitionCases.{mutex_unlocked, wait_begun, timed_wait_begun, wait_ended, timed_wait_ended}
+use Rattle.pct_transition_cases.proofs.TransitionCases.{wait_expired, wait_timed_out, canceled_in_wait, canceled_after_wait}
 use Rattle.pct_transition_cases.proofs.TransitionCases.{signal_handed_on, ended_in_wait, signal_sent, signal_lost, broadcast_sent}
-use Rattle.pct_transition_cases.proofs.TransitionCases.{sem_wait_begun, sem_taken, sem_posted, fork_registered, fork_not_registered}
-use Rattle.pct_transition_cases.proofs.TransitionCases.{fork_begun, fork_handler_called, fork_handler_left, process_forked}
-use Rattle.pct_transition_cases.proofs.TransitionCases.{process_not_forked, fork_failed, fork_returned, waitpid_begun, child_reaped}
-use Rattle.pct_transition_cases.proofs.TransitionCases.{no_child_found, child_lost, key_made, key_not_made, key_deleted, specific_set}
-use Rattle.pct_transition_cases.proofs.TransitionCases.{specific_got, handler_pushed, handler_popped, handler_called, exit_called}
-use Rattle.pct_transition_cases.proofs.TransitionCases.{handler_run, destructor_called, pass_begun, thread_ended, thread_ended_with_keys}
-use Rattle.pct_transition_cases.proofs.TransitionCases.{last_ended, last_ended_with_keys, exit_registered, exit_not_registered}
-use Rattle.pct_transition_cases.proofs.TransitionCases.{process_exited, process_ended_now, exit_function_called, process_ended}
+use Rattle.pct_transition_cases.proofs.TransitionCases.{sem_wait_begun, sem_taken, timed_sem_wait_begun, timed_sem_taken}
+use Rattle.pct_transition_cases.proofs.TransitionCases.{sem_wait_timed_out, sem_posted, fork_registered, fork_not_registered, fork_begun}
+use Rattle.pct_transition_cases.proofs.TransitionCases.{fork_handler_called, fork_handler_left, process_forked, process_not_forked}
+use Rattle.pct_transition_cases.proofs.TransitionCases.{fork_failed, fork_returned, waitpid_begun, child_reaped, no_child_found, child_lost}
+use Rattle.pct_transition_cases.proofs.TransitionCases.{key_made, key_not_made, key_deleted, specific_set, specific_got, handler_pushed}
+use Rattle.pct_transition_cases.proofs.TransitionCases.{handler_popped, handler_called, exit_called, handler_run, destructor_called}
+use Rattle.pct_transition_cases.proofs.TransitionCases.{pass_begun, thread_ended, thread_ended_with_keys, last_ended, last_ended_with_keys}
+use Rattle.pct_transition_cases.proofs.TransitionCases.{exit_registered, exit_not_registered, process_exited, process_ended_now}
+use Rattle.pct_transition_cases.proofs.TransitionCases.{exit_function_called, process_ended}
 
 -- ---- stops
 
@@ -102,6 +107,14 @@ shall_wait_for_post : is_required (point_kind sem_wait_point) ≡ true
 unfolding point_kind points
 shall_wait_for_post = refl
 
+shall_wait_in_time : is_required (point_kind cond_timedwait_point) ≡ true
+unfolding point_kind points
+shall_wait_in_time = refl
+
+shall_wait_for_post_in_time : is_required (point_kind sem_timedwait_point) ≡ true
+unfolding point_kind points
+shall_wait_for_post_in_time = refl
+
 shall_wait_for_child : is_required (point_kind waitpid_point) ≡ true
 unfolding point_kind points
 shall_wait_for_child = refl
@@ -124,8 +137,13 @@ module _ (passes : ℕ) (body : List Stmt) (shared : SharedState) (t : Thread) (
   abbrev Goes : Alt → NextStatement → Status → Type 0
   Goes choice next s = offered ≡ true → (offers (choices_at body shared t environment next s) choice ≡ true) × (is_acting choice ≡ false)
 
-  goes : (choice : Alt) (next : NextStatement) (s : Status) → Goes choice next s → offered ≡ true → goes_at shared environment s ≡ true
-  goes choice next s may known = may_go_on (offered_of body shared t environment choice next s (may known).0) (may known).1
+  -- what a thread waits for has occurred, unless its choice is that a time expires
+  goes : (choice : Alt) (next : NextStatement) (s : Status) → Goes choice next s → is_expire choice ≡ false → offered ≡ true → goes_at shared environment s ≡ true
+  goes choice next s may stays known = may_go_on (offered_of body shared t environment choice next s (may known).0) (may known).1 stays
+
+  -- the same of a thread that is in no wait with a time
+  goes_untimed : (choice : Alt) (next : NextStatement) (s : Status) → Goes choice next s → may_have_time s && is_timed_wait next ≡ false → offered ≡ true → goes_at shared environment s ≡ true
+  goes_untimed choice next s may untimed known = may_go_on_untimed (offered_of body shared t environment choice next s (may known).0) (may known).1 untimed
 
   -- ---- statements
 
@@ -237,6 +255,13 @@ module _ (passes : ℕ) (body : List Stmt) (shared : SharedState) (t : Thread) (
   unasked choice frame s may none shall called known =
       gone_on_at_required body shared t environment choice frame s shall called (no_stops body shared t environment frame s none).0 (no_stops body shared t environment frame s none).1.0 (may known).0 (may known).1
 
+  -- where no stop of a condition wait applies, the thread owns the mutex, and none waits with another one
+  no_stop_of_wait : (c m : ℕ) → (not (owns t.id m shared) || (waits_with_another_mutex c m environment || false)) ≡ false → (owns t.id m shared ≡ true) × (waits_with_another_mutex c m environment ≡ false)
+  no_stop_of_wait c m none =
+      let other : Bool = waits_with_another_mutex c m environment in
+      let parts : (not (owns t.id m shared) ≡ false) × ((other || false) ≡ false) = or_parts (not (owns t.id m shared)) (other || false) none in
+      (not-false (owns t.id m shared) parts.0, alone other parts.1)
+
   running_case : (choice : Alt) (frame : Frame) (s : Stmt) → Goes choice (StatementIn frame s) status.Running → stop_at body shared t environment frame s ≡ None
       → Case (StatementIn frame s) status.Running (runs passes body shared t environment choice frame s)
   unfolding runs emits sets adds jumps calls gets_self ends_by_exit pushes sets_state sets_mode tests_cancel deletes_key sets_specific gets_specific locks unlocks begins_wait broadcasts begins_sem_wait posts registers_fork begins_fork exits ends_now stops_of called_kind
@@ -270,12 +295,15 @@ module _ (passes : ℕ) (body : List Stmt) (shared : SharedState) (t : Thread) (
       mutex_locked frame m (λ known. free_to_lock body shared t environment choice frame m (no_stops body shared t environment frame (statement.Lock m) none).0 (no_stops body shared t environment frame (statement.Lock m) none).1.0 (may known).0)
   running_case choice frame (statement.Unlock m) may none = mutex_unlocked frame m (not-false (owns t.id m shared) (alone (not (owns t.id m shared)) (no_stops body shared t environment frame (statement.Unlock m) none).1.1))
   running_case choice frame (statement.CondWait c m) may none =
-      let other : Bool = waits_with_another_mutex c m environment in
-      let parts : (not (owns t.id m shared) ≡ false) × ((other || false) ≡ false) = or_parts (not (owns t.id m shared)) (other || false) (no_stops body shared t environment frame (statement.CondWait c m) none).1.1 in
-      wait_begun frame c m (not-false (owns t.id m shared) parts.0) (alone other parts.1) (unasked choice frame (statement.CondWait c m) may none shall_wait refl)
+      let stays : (owns t.id m shared ≡ true) × (waits_with_another_mutex c m environment ≡ false) = no_stop_of_wait c m (no_stops body shared t environment frame (statement.CondWait c m) none).1.1 in
+      wait_begun frame c m stays.0 stays.1 (unasked choice frame (statement.CondWait c m) may none shall_wait refl)
+  running_case choice frame (statement.CondTimedWait result c m) may none =
+      let stays : (owns t.id m shared ≡ true) × (waits_with_another_mutex c m environment ≡ false) = no_stop_of_wait c m (no_stops body shared t environment frame (statement.CondTimedWait result c m) none).1.1 in
+      timed_wait_begun frame result c m stays.0 stays.1 (unasked choice frame (statement.CondTimedWait result c m) may none shall_wait_in_time refl)
   running_case choice frame (statement.Signal c) may none = signal_case choice frame c (may_be (λ known. (may known).0))
   running_case choice frame (statement.Broadcast c) may none = broadcast_sent frame c
   running_case choice frame (statement.SemWait sem) may none = sem_wait_begun frame sem (unasked choice frame (statement.SemWait sem) may none shall_wait_for_post refl)
+  running_case choice frame (statement.SemTimedWait result sem) may none = timed_sem_wait_begun frame result sem (unasked choice frame (statement.SemTimedWait result sem) may none shall_wait_for_post_in_time refl)
   running_case choice frame (statement.SemPost sem) may none = sem_posted frame sem
   running_case choice frame (statement.AtFork result prepare parent child) may none = register_fork_case frame result prepare parent child (nat_lt (length shared.fork_handlers) MAX_FORK_HANDLERS) refl
   running_case choice frame (statement.Fork result child) may none = fork_begun frame result child (alone (has_begun_to_end t.reason) (no_stops body shared t environment frame (statement.Fork result child) none).1.1)
@@ -304,15 +332,20 @@ module _ (passes : ℕ) (body : List Stmt) (shared : SharedState) (t : Thread) (
   join_ended_case id next (Some target) is = join_value_case id target is target.status refl next
   join_ended_case id next None is = rests next (status.Joining id) (λ known. refl)
 
-  taken_case : (sem : ℕ) (next : NextStatement) → (offered ≡ true → goes_at shared environment (status.InSem sem) ≡ true) → Case next (status.InSem sem) (ends_sem_wait sem (slice_index shared.counts sem) next)
+  taken_case : (choice : Alt) (sem : ℕ) (next : NextStatement) → Goes choice next (status.InSem sem) → Case next (status.InSem sem) (ends_sem_wait choice sem (slice_index shared.counts sem) next)
   unfolding ends_sem_wait
-  taken_case sem (StatementIn frame (statement.SemWait s)) above = sem_taken frame s sem above
-  taken_case sem next above = rests next (status.InSem sem) (λ known. refl)
+  taken_case choice sem (StatementIn frame (statement.SemWait s)) may = sem_taken frame s sem (goes_untimed choice (StatementIn frame (statement.SemWait s)) (status.InSem sem) may refl)
+  taken_case alt.Expire sem (StatementIn frame (statement.SemTimedWait result s)) may = sem_wait_timed_out frame result s sem (λ known. expired_before (may_be (λ is. (may is).0) known))
+  taken_case choice sem (StatementIn frame (statement.SemTimedWait result s)) may = timed_sem_taken frame result s sem (goes choice (StatementIn frame (statement.SemTimedWait result s)) (status.InSem sem) may refl)
+  taken_case choice sem next may = rests next (status.InSem sem) (λ known. refl)
 
   reacquired_case : (c m : ℕ) (why : Cause) (next : NextStatement) → (offered ≡ true → goes_at shared environment (status.Reacquire c m why) ≡ true) → Case next (status.Reacquire c m why) (reacquires t.id c m why next)
   unfolding reacquires
   reacquired_case c m cause.Canceled next free = ended_in_wait next c m free
+  reacquired_case c m cause.TimedOut (StatementIn frame (statement.CondTimedWait result cond mutex)) free = wait_timed_out frame result cond mutex c m free
+  reacquired_case c m cause.TimedOut next free = rests next (status.Reacquire c m cause.TimedOut) (λ known. refl)
   reacquired_case c m why (StatementIn frame (statement.CondWait cond mutex)) free = wait_ended frame cond mutex c m why refl free
+  reacquired_case c m why (StatementIn frame (statement.CondTimedWait result cond mutex)) free = timed_wait_ended frame result cond mutex c m why refl free
   reacquired_case c m why next free = rests next (status.Reacquire c m why) (λ known. refl)
 
   reaped_case : (frame : Frame) (result d : Dest) (operand : Operand) (pid : ℕ) (child : Child) → environment.family.child pid ≡ Some child → (ended : Option ℕ) → child.ended ≡ ended
@@ -418,13 +451,14 @@ module _ (passes : ℕ) (body : List Stmt) (shared : SharedState) (t : Thread) (
 
   -- where the thread goes on
   pub going_case : (choice : Alt) (next : NextStatement) (s : Status) → Goes choice next s → Case next s (transition_at passes body shared t environment choice next s)
-  unfolding transition_at
+  unfolding transition_at expires
   going_case choice (StatementIn frame s) status.Running may = stop_case frame s (stop_at body shared t environment frame s) (runs passes body shared t environment choice frame s) (running_case choice frame s may)
   going_case choice next (status.AtPoint index) may = point_passed_case index next
   going_case choice next (status.Joining id) may = join_ended_case id next (environment.named id) refl
-  going_case choice next (status.InSem sem) may = taken_case sem next (goes choice next (status.InSem sem) may)
+  going_case choice next (status.InSem sem) may = taken_case choice sem next may
   going_case choice next (status.InWaitPid pid) may = waited_case pid (environment.family.child pid) refl next
-  going_case choice next (status.Reacquire c m why) may = reacquired_case c m why next (goes choice next (status.Reacquire c m why) may)
+  going_case choice next (status.Waiting c m) may = wait_expired next c m (λ known. may_expire_in_wait (offered_of body shared t environment choice next (status.Waiting c m) (may known).0) (may known).1)
+  going_case choice next (status.Reacquire c m why) may = reacquired_case c m why next (goes_untimed choice next (status.Reacquire c m why) may refl)
   going_case choice next status.Ending may = ending_case choice next (λ known. (may known).0) t.handlers refl
   going_case choice next (status.Forking at) may = forking_case at next (next_handler shared.fork_handlers at) refl
   going_case choice next status.Exiting may = exit_case next shared.exit_functions refl shared.exit_value refl
@@ -446,6 +480,7 @@ module _ (passes : ℕ) (body : List Stmt) (shared : SharedState) (t : Thread) (
   acting_case n next (status.Waiting c m) may = canceled_in_wait next c m (λ known. act_delivered (may known))
   acting_case n next (status.Reacquire c m cause.Signalled) may = handing_case n next c m may (nat_eq n 0) refl
   acting_case n next (status.Reacquire c m cause.Broadcast) may = canceled_after_wait next c m cause.Broadcast refl (λ known. act_delivered (may known))
+  acting_case n next (status.Reacquire c m cause.TimedOut) may = canceled_after_wait next c m cause.TimedOut refl (λ known. act_delivered (may known))
   acting_case n next s may = rests next s (λ known. offered_alive (may known))
 
   -- the case of the transition that a choice makes

@@ -1,16 +1,17 @@
 -- The choices that a thread is offered, by case.
-use Rattle.pct_names.proofs.Names.{◌&&◌, ◌++◌, [], act_if, AllByRecursion, Alt, and_parts, ap, Asynchronous, Bool, called_kind, Cause}
-use Rattle.pct_names.proofs.Names.{ChoiceRow, choices_at, cond, Deferred, Dest, Disable, dtor_or_go, Enable, ending_choices, Environment}
-use Rattle.pct_names.proofs.Names.{false, false≢true, first_row, Frame, go_if, hand_on_or_act, inl, inr, is_allowed_asynchronously}
-use Rattle.pct_names.proofs.Names.{is_asynchronous, is_at_cancellation_point, is_blocked, is_create, is_deliverable, is_ended_status}
-use Rattle.pct_names.proofs.Names.{is_ended_thread, is_forbidden_in_child, is_free_mutex, is_key_create, is_optional, is_required}
-use Rattle.pct_names.proofs.Names.{is_running_child, is_signal, is_some, left_keys, List, list_any, map, may_pass_point, Mode, nat_eq}
-use Rattle.pct_names.proofs.Names.{nat_lt, new_keys, new_or_go, NextStatement, None, not, offers, Operand, Option, Optional, or_cases}
-use Rattle.pct_names.proofs.Names.{or_left, or_right, pick_or_go, PointKind, refl, Required, running_choices, running_rows, same_choice}
-use Rattle.pct_names.proofs.Names.{SharedState, slice_index, Some, State, StatementIn, Status, Stmt, subst, sym, Thread, true}
-use Rattle.pct_names.proofs.Names.{unblocked_acts, waiters_to_signal, ℕ, ◌∙◌, ◌∷◌, ◌≡◌}
+use Rattle.pct_names.proofs.Names.{◌&&◌, ◌++◌, [], act_if, AllByRecursion, Alt, and_from, and_parts, ap, Asynchronous, Bool, called_kind}
+use Rattle.pct_names.proofs.Names.{can_expire, Cause, ChoiceRow, choices_at, cond, Deferred, Dest, Disable, dtor_or_go, Enable}
+use Rattle.pct_names.proofs.Names.{ending_choices, Environment, expire_if, false, false≢true, first_row, Frame, go_if, hand_on_or_act, inl}
+use Rattle.pct_names.proofs.Names.{inr, is_allowed_asynchronously, is_asynchronous, is_at_cancellation_point, is_blocked, is_create}
+use Rattle.pct_names.proofs.Names.{is_deliverable, is_ended_status, is_ended_thread, is_forbidden_in_child, is_free_mutex, is_key_create}
+use Rattle.pct_names.proofs.Names.{is_optional, is_required, is_running_child, is_signal, is_some, is_timed_wait, left_keys, List, list_any}
+use Rattle.pct_names.proofs.Names.{map, may_pass_point, Mode, nat_eq, nat_lt, new_keys, new_or_go, NextStatement, None, not, not-true}
+use Rattle.pct_names.proofs.Names.{offers, Operand, Option, Optional, or_cases, or_left, or_right, pick_or_go, PointKind, refl, Required}
+use Rattle.pct_names.proofs.Names.{running_choices, running_rows, same_choice, SharedState, slice_index, Some, State, StatementIn, Status}
+use Rattle.pct_names.proofs.Names.{Stmt, subst, sym, Thread, true, unblocked_acts, waiters_to_signal, ℕ, ◌∙◌, ◌∷◌, ◌≡◌}
 use Rattle.std.proofs.Common.{eqb-true, eq-eqb}
 use Rattle.std.proofs.lemmas.Bool.{true≢false}
+use Rattle.pct_model.specs.ChoiceTable.{is_expire}
 use Rattle.pct_model.specs.declared.schedule.Alt.TheVariants as alt
 use Rattle.pct_model.specs.declared.state.Cause.TheVariants as cause
 use Rattle.pct_model.specs.declared.state.Status.TheVariants as status
@@ -39,6 +40,12 @@ goes_at shared environment (status.Reacquire c m why) = is_free_mutex m shared
 goes_at shared environment (status.Ended v) = false
 goes_at shared environment _ = true
 
+-- a thread with this status is in a wait that has a time at some statements: it waits for a semaphore or on a condition variable
+abbrev pub may_have_time : Status → Bool
+may_have_time (status.InSem sem) = true
+may_have_time (status.Waiting c m) = true
+may_have_time _ = false
+
 -- a choice that is offered to a thread, and what is known of the thread then. A new case is needed only for a choice of a new kind
 pub data Offered (shared : SharedState) (t : Thread) (environment : Environment) : NextStatement → Status → Alt → Type 0 where
   -- the thread goes on
@@ -56,6 +63,8 @@ pub data Offered (shared : SharedState) (t : Thread) (environment : Environment)
       → Offered shared t environment (StatementIn frame (statement.KeyCreate result key destructor)) status.Running (alt.New n)
   -- it has no handler, and calls the destructor of a key that is left in its pass
   may_destroy : (next : NextStatement) (k : ℕ) → t.handlers ≡ [] → list_any (nat_eq k) (left_keys shared.keys t.specific) ≡ true → Offered shared t environment next status.Ending (alt.Dtor k)
+  -- the time of its wait expires, where what it waits for has not occurred
+  may_expire : (next : NextStatement) (s : Status) → may_have_time s ≡ true → can_expire environment next ≡ true → goes_at shared environment s ≡ false → Offered shared t environment next s alt.Expire
 
 -- ---- what each case has
 
@@ -64,19 +73,44 @@ going_alive : (shared : SharedState) (environment : Environment) (s : Status) �
 going_alive shared environment (status.Ended v) goes = absurd (false≢true goes)
 going_alive shared environment _ goes = refl
 
+-- nor has one in a wait that may have a time
+timed_alive : (s : Status) → may_have_time s ≡ true → is_ended_status s ≡ false
+timed_alive (status.Ended v) timed = absurd (false≢true timed)
+timed_alive _ timed = refl
+
 module _ {shared : SharedState} {t : Thread} {environment : Environment} where
   -- a thread that has a choice does not have the status of its end
   pub offered_alive : {next : NextStatement} {s : Status} {choice : Alt} → Offered shared t environment next s choice → is_ended_status s ≡ false
   offered_alive (may_go next s goes) = going_alive shared environment s goes
   offered_alive (may_act next s alive delivered where_it_may) = alive
+  offered_alive (may_expire next s timed can before) = timed_alive s timed
   offered_alive _ = refl
 
-  -- what a thread waits for has occurred, where its choice is not to act upon a request
-  pub may_go_on : {next : NextStatement} {s : Status} {choice : Alt} → Offered shared t environment next s choice → is_acting choice ≡ false → goes_at shared environment s ≡ true
-  may_go_on (may_go next s goes) other = goes
-  may_go_on (may_act next s alive delivered where_it_may) other = absurd (true≢false other)
-  may_go_on (may_hand_on next c m u delivered among) other = absurd (true≢false other)
-  may_go_on _ other = refl
+  -- what a thread waits for has occurred, where its choice is not to act upon a request, and not that a time expires
+  pub may_go_on : {next : NextStatement} {s : Status} {choice : Alt} → Offered shared t environment next s choice → is_acting choice ≡ false → is_expire choice ≡ false → goes_at shared environment s ≡ true
+  may_go_on (may_go next s goes) other stays = goes
+  may_go_on (may_act next s alive delivered where_it_may) other stays = absurd (true≢false other)
+  may_go_on (may_hand_on next c m u delivered among) other stays = absurd (true≢false other)
+  may_go_on (may_expire next s timed can before) other stays = absurd (true≢false stays)
+  may_go_on _ other stays = refl
+
+  -- the same of a thread that is in no wait with a time, where its choice is not to act upon a request
+  pub may_go_on_untimed : {next : NextStatement} {s : Status} {choice : Alt} → Offered shared t environment next s choice → is_acting choice ≡ false → may_have_time s && is_timed_wait next ≡ false → goes_at shared environment s ≡ true
+  may_go_on_untimed (may_go next s goes) other untimed = goes
+  may_go_on_untimed (may_act next s alive delivered where_it_may) other untimed = absurd (true≢false other)
+  may_go_on_untimed (may_hand_on next c m u delivered among) other untimed = absurd (true≢false other)
+  may_go_on_untimed (may_expire next s timed can before) other untimed = absurd (true≢false (sym (and_from (may_have_time s) (is_timed_wait next) timed ((and_parts environment.timeouts (is_timed_wait next) can).1)) ∙ untimed))
+  may_go_on_untimed _ other untimed = refl
+
+  -- a thread that waits on a condition variable goes on only as the time of its wait expires
+  pub may_expire_in_wait : {next : NextStatement} {c m : ℕ} {choice : Alt} → Offered shared t environment next (status.Waiting c m) choice → is_acting choice ≡ false → is_timed_wait next ≡ true
+  may_expire_in_wait (may_go next s goes) other = absurd (false≢true goes)
+  may_expire_in_wait (may_act next s alive delivered where_it_may) other = absurd (true≢false other)
+  may_expire_in_wait (may_expire next s timed can before) other = (and_parts environment.timeouts (is_timed_wait next) can).1
+
+  -- where the time of a wait expires, what the thread waits for has not occurred
+  pub expired_before : {next : NextStatement} {s : Status} → Offered shared t environment next s alt.Expire → goes_at shared environment s ≡ false
+  expired_before (may_expire next s timed can before) = before
 
   -- a thread that may act upon a request has one pending, and its cancelability enabled
   pub act_delivered : {next : NextStatement} {s : Status} {n : ℕ} → Offered shared t environment next s (alt.Act n) → is_deliverable t.state t.pending ≡ true
@@ -114,6 +148,7 @@ same_choice-is alt.Go alt.Go same = refl
 same_choice-is (alt.Act n) (alt.Act m) same = ap (λ (k : ℕ). alt.Act k) (sym (eqb-true n m same))
 same_choice-is (alt.New n) (alt.New m) same = ap (λ (k : ℕ). alt.New k) (sym (eqb-true n m same))
 same_choice-is (alt.Pick n) (alt.Pick m) same = ap (λ (k : ℕ). alt.Pick k) (sym (eqb-true n m same))
+same_choice-is alt.Expire alt.Expire same = refl
 same_choice-is (alt.Dtor n) (alt.Dtor m) same = ap (λ (k : ℕ). alt.Dtor k) (sym (eqb-true n m same))
 same_choice-is _ _ same = absurd (false≢true same)
 
@@ -148,6 +183,14 @@ module _ (P : Alt → Type 0) (choice : Alt) where
   go_or_has : (passes : Bool) (acting : List Alt) → (passes ≡ true → P alt.Go) → (offers acting choice ≡ true → P choice) → offers (go_if passes ++ acting) choice ≡ true → P choice
   go_or_has true acting go act offered = elim (or_cases (same_choice choice alt.Go) (offers acting choice) offered) [ inl same ↦ subst P (same_choice-is choice alt.Go same) (go refl) | inr later ↦ act later ]
   go_or_has false acting go act offered = act offered
+
+  expire_or_has : (expires : Bool) (acting : List Alt) → (expires ≡ true → P alt.Expire) → (offers acting choice ≡ true → P choice) → offers (expire_if expires ++ acting) choice ≡ true → P choice
+  expire_or_has true acting expire act offered = elim (or_cases (same_choice choice alt.Expire) (offers acting choice) offered) [ inl same ↦ subst P (same_choice-is choice alt.Expire same) (expire refl) | inr later ↦ act later ]
+  expire_or_has false acting expire act offered = act offered
+
+  go_or_expire_has : (passes expires : Bool) (acting : List Alt) → (passes ≡ true → P alt.Go) → (expires ≡ true → P alt.Expire) → (offers acting choice ≡ true → P choice) → offers (go_if passes ++ expire_if expires ++ acting) choice ≡ true → P choice
+  go_or_expire_has true expires acting go expire act = go_or_has true (expire_if expires ++ acting) go (expire_or_has expires acting expire act)
+  go_or_expire_has false expires acting go expire act = expire_or_has expires acting expire act
 
   act_has : (delivered : Bool) → (delivered ≡ true → P (alt.Act 0)) → offers (act_if delivered) choice ≡ true → P choice
   act_has true act offered = each_has (alt.Act 0 ∷ []) (act refl, tt) offered
@@ -194,6 +237,7 @@ acts_only alt.Go other = refl
 acts_only (alt.New n) other = refl
 acts_only (alt.Pick n) other = refl
 acts_only (alt.Dtor n) other = refl
+acts_only alt.Expire other = refl
 
 -- where a choice is offered that calls no destructor, no key is left
 none_left : (choice : Alt) (keys : List ℕ) → is_destroying choice ≡ false → offers (dtor_or_go keys) choice ≡ true → keys ≡ []
@@ -258,12 +302,21 @@ module _ (body : List Stmt) (shared : SharedState) (t : Thread) (environment : E
       let P : Alt → Type 0 = Offered shared t environment next s in
       go_or_has P choice (goes_at shared environment s) (act_if (is_deliverable t.state t.pending)) (may_go next s) (act_has P choice (is_deliverable t.state t.pending) (λ delivered. may_act next s alive delivered (λ elsewhere. absurd (true≢false (sym at_point ∙ elsewhere)))))
 
+  -- a thread that is suspended in a wait which may have a time
+  timed_offered : (next : NextStatement) (s : Status) → may_have_time s ≡ true → is_at_cancellation_point next s ≡ true → (expires : Bool) → (expires ≡ true → (can_expire environment next ≡ true) × (goes_at shared environment s ≡ false))
+      → offers (go_if (goes_at shared environment s) ++ expire_if expires ++ act_if (is_deliverable t.state t.pending)) choice ≡ true → Offered shared t environment next s choice
+  timed_offered next s timed at_point expires can =
+      let P : Alt → Type 0 = Offered shared t environment next s in
+      go_or_expire_has P choice (goes_at shared environment s) expires (act_if (is_deliverable t.state t.pending)) (may_go next s) (λ is. may_expire next s timed (can is).0 (can is).1)
+      (act_has P choice (is_deliverable t.state t.pending) (λ delivered. may_act next s (timed_alive s timed) delivered (λ elsewhere. absurd (true≢false (sym at_point ∙ elsewhere)))))
+
   -- a thread that was unblocked on a condition variable
   unblocked_offered : (next : NextStatement) (c m : ℕ) (why : Cause) (delivered : Bool) → (delivered ≡ true → is_deliverable t.state t.pending ≡ true) → offers (cond delivered (unblocked_acts why (environment.waiters c)) []) choice ≡ true → Offered shared t environment next (status.Reacquire c m why) choice
   unblocked_offered next c m cause.Signalled true is offered =
       number_or_has (Offered shared t environment next (status.Reacquire c m cause.Signalled)) choice hand_on_or_act (λ u. alt.Act u) (λ waiter. waiter.id) (alt.Act 0) refl (λ waiter waiters. refl)
       (may_act next (status.Reacquire c m cause.Signalled) refl (is refl) (λ elsewhere. absurd (true≢false elsewhere))) (environment.waiters c) (λ u among. may_hand_on next c m u (is refl) among) offered
   unblocked_offered next c m cause.Broadcast true is offered = each_has (Offered shared t environment next (status.Reacquire c m cause.Broadcast)) choice (alt.Act 0 ∷ []) (may_act next (status.Reacquire c m cause.Broadcast) refl (is refl) (λ elsewhere. absurd (true≢false elsewhere)), tt) offered
+  unblocked_offered next c m cause.TimedOut true is offered = each_has (Offered shared t environment next (status.Reacquire c m cause.TimedOut)) choice (alt.Act 0 ∷ []) (may_act next (status.Reacquire c m cause.TimedOut) refl (is refl) (λ elsewhere. absurd (true≢false elsewhere)), tt) offered
   unblocked_offered next c m cause.Canceled true is offered = absurd (false≢true offered)
   unblocked_offered next c m why false is offered = absurd (false≢true offered)
 
@@ -280,9 +333,14 @@ module _ (body : List Stmt) (shared : SharedState) (t : Thread) (environment : E
   offered_of (StatementIn frame s) status.Running offered = running_offered frame s offered
   offered_of next (status.AtPoint index) offered = suspended_offered next (status.AtPoint index) refl refl offered
   offered_of next (status.Joining id) offered = suspended_offered next (status.Joining id) refl refl offered
-  offered_of next (status.InSem sem) offered = suspended_offered next (status.InSem sem) refl refl offered
+  offered_of next (status.InSem sem) offered =
+      let above : Bool = nat_lt 0 (slice_index shared.counts sem) in
+      let can_and_before : can_expire environment next && not above ≡ true → (can_expire environment next ≡ true) × (above ≡ false) = λ is.
+      let parts : (can_expire environment next ≡ true) × (not above ≡ true) = and_parts (can_expire environment next) (not above) is in
+      (parts.0, not-true above parts.1) in
+      timed_offered next (status.InSem sem) refl refl (can_expire environment next && not above) can_and_before offered
   offered_of next (status.InWaitPid pid) offered = suspended_offered next (status.InWaitPid pid) refl refl offered
-  offered_of next (status.Waiting c m) offered = suspended_offered next (status.Waiting c m) refl refl offered
+  offered_of next (status.Waiting c m) offered = timed_offered next (status.Waiting c m) refl refl (can_expire environment next) (λ can. (can, refl)) offered
   offered_of next (status.Reacquire c m why) offered =
       let delivered : Bool = is_deliverable t.state t.pending in
       go_or_has (Offered shared t environment next (status.Reacquire c m why)) choice (is_free_mutex m shared) (cond delivered (unblocked_acts why (environment.waiters c)) [])

@@ -2,15 +2,16 @@
 -- with what is known of the thread where it is made. A proof about transitions has a clause for each case of which it has something to
 -- say, and one for all others.
 use Rattle.pct_names.proofs.Names.{◌%◌, ◌&&◌, ◌+◌, ◌-◌, ◌<◌, [], acts, after_block, after_end, after_test, Asynchronous, Bool}
-use Rattle.pct_names.proofs.Names.{calls_cancellation_point, Cause, cond_wait_point, creates_thread, Dest, due_keys, EAGAIN, ECHILD}
-use Rattle.pct_names.proofs.Names.{end_value, ENOMEM, Environment, false, ForkAt, ForkHandlers, Frame, goes_on, handler_event, HandlerCall}
-use Rattle.pct_names.proofs.Names.{has_begun_to_end, has_left_wait, is_deliverable, is_ended_status, is_free_mutex, is_in_handler, is_none}
-use Rattle.pct_names.proofs.Names.{is_required, is_some, join_point, Key, key_place, key_with, left_keys, length, List, list_any}
-use Rattle.pct_names.proofs.Names.{MAX_FORK_HANDLERS, MAX_FRAMES, MAX_HANDLERS, may_register, mode_if, mode_number, nat_eq, nat_lt}
-use Rattle.pct_names.proofs.Names.{new_keys, next_handler, NextStatement, no_change, None, open_of, Operand, Option, owns, Parent}
-use Rattle.pct_names.proofs.Names.{point_kind, Prepare, Required, sem_wait_point, SharedState, slice_index, Some, state_if, state_number}
-use Rattle.pct_names.proofs.Names.{StatementIn, Status, Stmt, stops, suc, testcancel_point, Thread, Transition, true, value_at, value_of}
-use Rattle.pct_names.proofs.Names.{variable_value, waitpid_point, waits_with_another_mutex, while_called, Why, ℕ, ◌∷◌, ◌≡◌, ◌≤◌, ◌⊎◌}
+use Rattle.pct_names.proofs.Names.{calls_cancellation_point, Cause, cond_timedwait_point, cond_wait_point, creates_thread, Dest, due_keys}
+use Rattle.pct_names.proofs.Names.{EAGAIN, ECHILD, end_value, ENOMEM, Environment, ETIMEDOUT, false, ForkAt, ForkHandlers, Frame, goes_on}
+use Rattle.pct_names.proofs.Names.{handler_event, HandlerCall, has_begun_to_end, has_left_wait, is_deliverable, is_ended_status}
+use Rattle.pct_names.proofs.Names.{is_free_mutex, is_in_handler, is_none, is_required, is_some, is_timed_wait, join_point, Key, key_place}
+use Rattle.pct_names.proofs.Names.{key_with, left_keys, length, List, list_any, MAX_FORK_HANDLERS, MAX_FRAMES, MAX_HANDLERS, may_register}
+use Rattle.pct_names.proofs.Names.{mode_if, mode_number, nat_eq, nat_lt, new_keys, next_handler, NextStatement, no_change, None, open_of}
+use Rattle.pct_names.proofs.Names.{Operand, Option, owns, Parent, point_kind, Prepare, Required, sem_timedwait_point, sem_wait_point}
+use Rattle.pct_names.proofs.Names.{SharedState, slice_index, Some, state_if, state_number, StatementIn, Status, Stmt, stops, suc}
+use Rattle.pct_names.proofs.Names.{testcancel_point, Thread, Transition, true, value_at, value_of, variable_value, waitpid_point}
+use Rattle.pct_names.proofs.Names.{waits_with_another_mutex, while_called, Why, ℕ, ◌∷◌, ◌≡◌, ◌≤◌, ◌⊎◌}
 use Rattle.pct_model.specs.declared.event.Caller.TheVariants as caller
 use Rattle.pct_model.specs.declared.event.What.TheVariants as what
 use Rattle.pct_model.specs.declared.process.Child.{Child}
@@ -41,6 +42,12 @@ module _ (body : List Stmt) (globals : List ℕ) (frame : Frame) where
     by_end : open_of body frame.pc ≡ None → Returns statement.End 0
 
 -- ---- the cases
+
+-- a thread that waits is unblocked by another one: by a signal or a broadcast
+abbrev pub is_wake_up : Cause → Bool
+is_wake_up cause.Signalled = true
+is_wake_up cause.Broadcast = true
+is_wake_up _ = false
 
 module _ (passes : ℕ) (body : List Stmt) (shared : SharedState) (t : Thread) (environment : Environment) (offered : Bool) where
   -- the value of an operand
@@ -113,11 +120,22 @@ module _ (passes : ℕ) (body : List Stmt) (shared : SharedState) (t : Thread) (
         → TransitionCase (StatementIn frame (statement.Lock m)) status.Running (record (goes_on (suc frame.pc) (what.Acquired m ∷ [])) { shared = Some (shared_action.OwnMutex m t.id) })
     mutex_unlocked : (frame : Frame) (m : ℕ) → owns t.id m shared ≡ true
         → TransitionCase (StatementIn frame (statement.Unlock m)) status.Running (record (goes_on (suc frame.pc) (what.Released m ∷ [])) { shared = Some (shared_action.OwnMutex m 0) })
-    -- condition waits: the call; the return, by a signal or a broadcast; and the two steps by which a request ends one
+    -- condition waits: the call; the return, by a signal or a broadcast; for one with a time, that it expires, and the return then; and the two
+    -- steps by which a request ends one
     wait_begun : (frame : Frame) (c m : ℕ) → owns t.id m shared ≡ true → waits_with_another_mutex c m environment ≡ false → (offered ≡ true → is_deliverable t.state t.pending ≡ false)
         → TransitionCase (StatementIn frame (statement.CondWait c m)) status.Running (record (acts (what.Called cond_wait_point ∷ what.Released m ∷ [])) { own = Some (own_action.SetStatus (status.Waiting c m)); shared = Some (shared_action.OwnMutex m 0) })
-    wait_ended : (frame : Frame) (cond mutex c m : ℕ) (why : Cause) → has_left_wait (status.Reacquire c m why) ≡ false → (offered ≡ true → is_free_mutex m shared ≡ true)
+    timed_wait_begun : (frame : Frame) (result : Dest) (c m : ℕ) → owns t.id m shared ≡ true → waits_with_another_mutex c m environment ≡ false → (offered ≡ true → is_deliverable t.state t.pending ≡ false)
+        → TransitionCase (StatementIn frame (statement.CondTimedWait result c m)) status.Running (record (acts (what.Called cond_timedwait_point ∷ what.Released m ∷ [])) { own = Some (own_action.SetStatus (status.Waiting c m)); shared = Some (shared_action.OwnMutex m 0) })
+    wait_ended : (frame : Frame) (cond mutex c m : ℕ) (why : Cause) → is_wake_up why ≡ true → (offered ≡ true → is_free_mutex m shared ≡ true)
         → TransitionCase (StatementIn frame (statement.CondWait cond mutex)) (status.Reacquire c m why) (record (goes_on (suc frame.pc) (what.Acquired m ∷ what.Done cond_wait_point ∷ [])) { shared = Some (shared_action.OwnMutex m t.id) })
+    timed_wait_ended : (frame : Frame) (result : Dest) (cond mutex c m : ℕ) (why : Cause) → is_wake_up why ≡ true → (offered ≡ true → is_free_mutex m shared ≡ true)
+        → TransitionCase (StatementIn frame (statement.CondTimedWait result cond mutex)) (status.Reacquire c m why)
+        (record (goes_on (suc frame.pc) (what.Acquired m ∷ what.Done cond_timedwait_point ∷ [])) { writes = (result, 0) ∷ []; shared = Some (shared_action.OwnMutex m t.id) })
+    wait_expired : (next : NextStatement) (c m : ℕ) → (offered ≡ true → is_timed_wait next ≡ true)
+        → TransitionCase next (status.Waiting c m) (record (acts (what.WaitExpired c ∷ [])) { own = Some (own_action.SetStatus (status.Reacquire c m cause.TimedOut)) })
+    wait_timed_out : (frame : Frame) (result : Dest) (cond mutex c m : ℕ) → (offered ≡ true → is_free_mutex m shared ≡ true)
+        → TransitionCase (StatementIn frame (statement.CondTimedWait result cond mutex)) (status.Reacquire c m cause.TimedOut)
+        (record (goes_on (suc frame.pc) (what.Acquired m ∷ what.Answer caller.CondTimedWait ETIMEDOUT ∷ [])) { writes = (result, ETIMEDOUT) ∷ []; shared = Some (shared_action.OwnMutex m t.id) })
     canceled_in_wait : (next : NextStatement) (c m : ℕ) → (offered ≡ true → is_deliverable t.state t.pending ≡ true)
         → TransitionCase next (status.Waiting c m) (record (acts (what.WaitCanceled c ∷ [])) { own = Some (own_action.SetStatus (status.Reacquire c m cause.Canceled)) })
     canceled_after_wait : (next : NextStatement) (c m : ℕ) (why : Cause) → has_left_wait (status.Reacquire c m why) ≡ false → (offered ≡ true → is_deliverable t.state t.pending ≡ true)
@@ -137,6 +155,13 @@ module _ (passes : ℕ) (body : List Stmt) (shared : SharedState) (t : Thread) (
         → TransitionCase (StatementIn frame (statement.SemWait sem)) status.Running (record (acts (what.Called sem_wait_point ∷ [])) { own = Some (own_action.SetStatus (status.InSem sem)) })
     sem_taken : (frame : Frame) (s sem : ℕ) → (offered ≡ true → nat_lt 0 (slice_index shared.counts sem) ≡ true)
         → TransitionCase (StatementIn frame (statement.SemWait s)) (status.InSem sem) (record (goes_on (suc frame.pc) (what.Taken sem ∷ [])) { shared = Some (shared_action.SetCount sem (slice_index shared.counts sem - 1)) })
+    timed_sem_wait_begun : (frame : Frame) (result : Dest) (sem : ℕ) → (offered ≡ true → is_deliverable t.state t.pending ≡ false)
+        → TransitionCase (StatementIn frame (statement.SemTimedWait result sem)) status.Running (record (acts (what.Called sem_timedwait_point ∷ [])) { own = Some (own_action.SetStatus (status.InSem sem)) })
+    timed_sem_taken : (frame : Frame) (result : Dest) (s sem : ℕ) → (offered ≡ true → nat_lt 0 (slice_index shared.counts sem) ≡ true)
+        → TransitionCase (StatementIn frame (statement.SemTimedWait result s)) (status.InSem sem)
+        (record (goes_on (suc frame.pc) (what.Taken sem ∷ [])) { writes = (result, 0) ∷ []; shared = Some (shared_action.SetCount sem (slice_index shared.counts sem - 1)) })
+    sem_wait_timed_out : (frame : Frame) (result : Dest) (s sem : ℕ) → (offered ≡ true → nat_lt 0 (slice_index shared.counts sem) ≡ false)
+        → TransitionCase (StatementIn frame (statement.SemTimedWait result s)) (status.InSem sem) (record (goes_on (suc frame.pc) (what.Answer caller.SemTimedWait ETIMEDOUT ∷ [])) { writes = (result, ETIMEDOUT) ∷ [] })
     sem_posted : (frame : Frame) (sem : ℕ)
         → TransitionCase (StatementIn frame (statement.SemPost sem)) status.Running (record (goes_on (suc frame.pc) (what.Posted sem ∷ [])) { shared = Some (shared_action.SetCount sem (suc (slice_index shared.counts sem) % 4294967296)) })
     -- processes: pthread_atfork, the steps of fork with the calls of its handlers, and waitpid

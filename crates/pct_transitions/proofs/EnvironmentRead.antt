@@ -127,7 +127,7 @@ module _ (keys : Table) (k : ℕ) where
   ended_here None kept is = absurd (none-some kept is)
   ended_here (Some h) kept is = sym (ap (λ (r : Kept). exit_value_of r.status) (same_Some h.thread kept is))
 
-module _ (keys : Table) (threads : List Slot) (fit : length keys.rows ≡ length threads) (tid : ℕ) (family : Family) (environment : Environment) (sees : environment ≡ environment_in (length (slots_of keys.rows threads)) family (slots_of keys.rows threads) tid) where
+module _ (keys : Table) (threads : List Slot) (fit : length keys.rows ≡ length threads) (tid : ℕ) (timeouts : Bool) (family : Family) (environment : Environment) (sees : environment ≡ environment_in timeouts (length (slots_of keys.rows threads)) family (slots_of keys.rows threads) tid) where
   -- the thread with an id is that on the slot that the id names
   module _ (id : ℕ) (some : 1 ≤ length threads) where
     pub named_read : (found : Option ℕ) → found ≡ slot_named id threads → option_and_then (thread_on_slot (slots_of keys.rows threads)) found ≡ environment.named id
@@ -164,6 +164,11 @@ module _ (keys : Table) (threads : List Slot) (fit : length keys.rows ≡ length
       ∙ ap (λ (o : Environment). o.new_ids) (sym sees)
 
 -- the other processes are those of the family
-pub family_read : (slots : ℕ) (family : Family) (rows : List SeenSlot) (tid : ℕ) (environment : Environment) → environment ≡ environment_in slots family rows tid → environment.family ≡ family
+pub family_read : (timeouts : Bool) (slots : ℕ) (family : Family) (rows : List SeenSlot) (tid : ℕ) (environment : Environment) → environment ≡ environment_in timeouts slots family rows tid → environment.family ≡ family
 unfolding environment_in
-family_read slots family rows tid environment sees = ap (λ (o : Environment). o.family) sees
+family_read timeouts slots family rows tid environment sees = ap (λ (o : Environment). o.family) sees
+
+-- whether the time of a wait may expire
+pub timeouts_read : (timeouts : Bool) (slots : ℕ) (family : Family) (rows : List SeenSlot) (tid : ℕ) (environment : Environment) → environment ≡ environment_in timeouts slots family rows tid → environment.timeouts ≡ timeouts
+unfolding environment_in
+timeouts_read timeouts slots family rows tid environment sees = ap (λ (o : Environment). o.timeouts) sees

@@ -95,7 +95,7 @@ module _ (c : ℕ) where
 
 -- ---- what a thread sees
 
-module _ (keys : Table) (threads : List Slot) (fit : length keys.rows ≡ length threads) (tid : ℕ) (family : Family) (environment : Environment) (sees : environment ≡ environment_in (length (slots_of keys.rows threads)) family (slots_of keys.rows threads) tid) (c : ℕ) where
+module _ (keys : Table) (threads : List Slot) (fit : length keys.rows ≡ length threads) (tid : ℕ) (timeouts : Bool) (family : Family) (environment : Environment) (sees : environment ≡ environment_in timeouts (length (slots_of keys.rows threads)) family (slots_of keys.rows threads) tid) (c : ℕ) where
   -- a thread waits with another mutex
   pub another_mutex_read : (m : ℕ) → list_any (λ s. any_on (λ t. is_waiting_with_another c m t.status) s.here) threads ≡ waits_with_another_mutex c m environment
   unfolding environment_in

@@ -1,6 +1,7 @@
 -- What the next step of a thread depends on.
 use Rattle.std.specs.Prelude.{◌≡◌, List, length}
 use Rattle.pct_model.specs.Environment.{Environment}
+use Rattle.pct_model.specs.Formats.{has_timeouts}
 use Rattle.pct_model.specs.World.{Thread, SharedState}
 use Rattle.pct_engine_laws.specs.Seen.{SeenSlot}
 use Rattle.pct_engine_laws.specs.SeenSteps.{environment_in}
@@ -13,9 +14,9 @@ use Rattle.pct_transitions.specs.Positions.{AreShared, HasRow, IsDecoded, IsPosi
 abbrev pub slots_in : Context → List SeenSlot
 slots_in context = slots_of context.position.keys.now.rows context.threads.now
 
--- this is what the thread sees of the others
+-- this is what the thread sees of the others, in a run of the configuration
 abbrev pub IsEnvironment : Context → Environment → Type 0
-IsEnvironment context environment = environment ≡ environment_in (length (slots_in context)) (other_processes context.family) (slots_in context) context.position.id
+IsEnvironment context environment = environment ≡ environment_in (has_timeouts context.program.now.config.format) (length (slots_in context)) (other_processes context.family) (slots_in context) context.position.id
 
 -- this is the context of the thread, which shares this state with the threads of its process, and sees this of them
 pub record IsContext (shared : SharedState) (t : Thread) (environment : Environment) (context : Context) : Type 0 where

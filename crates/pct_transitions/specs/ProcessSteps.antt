@@ -6,6 +6,7 @@ use Rattle.pct_model.specs.declared.schedule.Alt.{Alt}
 use Rattle.pct_model.specs.declared.schedule.Config.{Config}
 use Rattle.pct_model.specs.declared.transition.Transition.{Transition}
 use Rattle.pct_model.specs.ChoiceTable.{offers}
+use Rattle.pct_model.specs.Formats.{has_timeouts}
 use Rattle.pct_model.specs.StatusKinds.{is_forking}
 use Rattle.pct_model.specs.OtherProcesses.{Family}
 use Rattle.pct_model.specs.World.{Thread}
@@ -29,5 +30,5 @@ ForksHaveRoom slots = (k : ℕ) (t : Thread) → thread_on_slot slots k ≡ Some
 
 -- a choice of a thread, which sees these other processes, is offered or not, and if it is, the thread makes this transition
 pub record Takes (script : Script) (config : Config) (family : Family) (d : ProcessData) (t : Thread) (choice : Alt) (offered : Bool) (o : Transition) : Type 0 where
-  pub offered_is : offers (choices_in script (length d.slots) family (with_data d) t) choice ≡ offered
-  pub taken : offered ≡ true → o ≡ transition_in script (length d.slots) config.passes family (with_data d) t choice
+  pub offered_is : offers (choices_in script (has_timeouts config.format) (length d.slots) family (with_data d) t) choice ≡ offered
+  pub taken : offered ≡ true → o ≡ transition_in script (has_timeouts config.format) (length d.slots) config.passes family (with_data d) t choice

@@ -15,9 +15,9 @@ use crate::current::{At, next_pc};
 use crate::transitions::{acts, goes_on, no_change};
 use pct_cancel::point_at;
 use pct_model::{
-    COND_WAIT_POINT, Cause, Dest, JOIN_POINT, Mode, NamedAction, OwnAction, PointKind, PointWait,
-    Reason, SEM_WAIT_POINT, State, Status, Stmt, TESTCANCEL_POINT, Transition, UpToThree,
-    WAITPID_POINT, What,
+    COND_TIMEDWAIT_POINT, COND_WAIT_POINT, Cause, Dest, JOIN_POINT, Mode, NamedAction, OwnAction,
+    PointKind, PointWait, Reason, SEM_TIMEDWAIT_POINT, SEM_WAIT_POINT, State, Status, Stmt,
+    TESTCANCEL_POINT, Transition, UpToThree, WAITPID_POINT, What,
 };
 
 // ---- pthread_cancel
@@ -137,7 +137,9 @@ pub(crate) fn called_kind(statement: &Stmt) -> Option<PointKind>
     match statement {
         Stmt::Join { .. } => point_kind(JOIN_POINT),
         Stmt::CondWait { .. } => point_kind(COND_WAIT_POINT),
+        Stmt::CondTimedWait { .. } => point_kind(COND_TIMEDWAIT_POINT),
         Stmt::SemWait(_) => point_kind(SEM_WAIT_POINT),
+        Stmt::SemTimedWait { .. } => point_kind(SEM_TIMEDWAIT_POINT),
         Stmt::WaitPid { .. } => point_kind(WAITPID_POINT),
         Stmt::TestCancel => point_kind(TESTCANCEL_POINT),
         Stmt::PointCall(index) => point_kind(*index),
@@ -228,7 +230,8 @@ pub(crate) fn acts_on_request(id: u32, status: Status, transition: &mut Transiti
                 ..acts(UpToThree::one(What::EndingCanceled))
             };
         }
-        Status::Waiting(cond, mutex) | Status::Reacquire(cond, mutex, Cause::Broadcast) => {
+        Status::Waiting(cond, mutex)
+        | Status::Reacquire(cond, mutex, Cause::Broadcast | Cause::TimedOut) => {
             *transition = leaves_wait(cond, mutex);
         }
         Status::Reacquire(cond, mutex, Cause::Signalled) => {

@@ -1,6 +1,6 @@
 //! The choices of the scheduler for each thread.
 
-ghost use Rattle.std.specs.Prelude.{◌≡◌, ◌<◌, ◌++◌, ℕ, true, false, List, All, length, map, nat_eq, slice_get};
+ghost use Rattle.std.specs.Prelude.{◌≡◌, ◌<◌, ◌++◌, ◌&&◌, ℕ, true, false, not, List, All, length, map, nat_eq, slice_get};
 ghost use Rattle.std.specs.List.{list_any};
 ghost use Rattle.pct_model.specs.declared.schedule.Alt.TheVariants as alt;
 ghost use Rattle.pct_model.specs.declared.state.Status.TheVariants as status;
@@ -9,12 +9,12 @@ ghost use Rattle.pct_model.specs.World.{Thread, SharedState, body_of};
 ghost use Rattle.pct_model.specs.NextStatement.{next_of, body_at};
 ghost use Rattle.pct_model.specs.Environment.{Waiter, Environment};
 ghost use Rattle.pct_model.specs.Keys.{new_keys, left_keys};
-ghost use Rattle.pct_model.specs.ChoiceTable.{choices_at, running_choices, ending_choices, new_or_go, dtor_or_go, pick_or_go, hand_on_or_act, go_if, act_if, offers};
+ghost use Rattle.pct_model.specs.ChoiceTable.{choices_at, running_choices, ending_choices, new_or_go, dtor_or_go, pick_or_go, hand_on_or_act, go_if, expire_if, can_expire, act_if, offers};
 ghost use Rattle.pct_keys.specs.Tables.{Table, row_at};
 ghost use Rattle.pct_threads.specs.Slots.{Slot};
 ghost use Rattle.pct_threads.specs.Tables.{is_occupied_at, next_id_at};
 ghost use Rattle.pct_transitions.specs.Numbers.{IdsFit, NextKeysFit, NumbersFit};
-ghost use Rattle.pct_transitions.specs.Contexts.{IsContext, IsWhole};
+ghost use Rattle.pct_transitions.specs.Contexts.{IsContext, IsEnvironment, IsWhole};
 ghost use Rattle.pct_transitions.specs.Listed.{listed, statement_choices, requested_choices, AreWithin, HasRowFor};
 ghost use Rattle.pct_transitions.specs.OtherThreads.{ids_on};
 ghost use Rattle.pct_transitions.specs.declared.choice_table.Choices.TheVariants as choices;
@@ -22,7 +22,7 @@ ghost use Rattle.pct_transitions.specs.Positions.{next_at};
 
 use crate::cancel_calls::{called_kind, may_pass_point};
 use crate::context::Context;
-use crate::current::At;
+use crate::current::{At, is_timed_next};
 use crate::mutex_calls::is_free_mutex;
 use crate::sem_calls::count_of;
 use crate::stop_table::is_forbidden_in_child;
@@ -41,6 +41,10 @@ pub enum Choices {
     Act,
     /// `go`, and then `act`.
     GoOrAct,
+    /// `expire`.
+    Expire,
+    /// `expire`, and then `act`.
+    ExpireOrAct,
     /// `new`, with the id of the next thread on each of these slots.
     New(SlotSet),
     /// `new`, with the number of the next key on each place that has none.
@@ -70,6 +74,8 @@ impl Choices {
             Choices::Go => matches!(choice, Alt::Go),
             Choices::Act => matches!(choice, Alt::Act(0)),
             Choices::GoOrAct => matches!(choice, Alt::Go | Alt::Act(0)),
+            Choices::Expire => matches!(choice, Alt::Expire),
+            Choices::ExpireOrAct => matches!(choice, Alt::Expire | Alt::Act(0)),
             Choices::New(free) => match choice {
                 Alt::New(id) => offers_id(threads, free, id),
                 _ => false,
@@ -103,6 +109,8 @@ impl Choices {
             Choices::Go => 1,
             Choices::Act => 1,
             Choices::GoOrAct => 2,
+            Choices::Expire => 1,
+            Choices::ExpireOrAct => 2,
             Choices::New(free) => free.len() as usize,
             Choices::NewKey => (MAX_KEYS - keys.live()) as usize,
             Choices::Dtor(slot) => keys.left(*slot) as usize,
@@ -126,6 +134,12 @@ impl Choices {
             Choices::Act => { if n == 0 { Some(Alt::Act(0)) } else { None } }
             Choices::GoOrAct => match n {
                 0 => Some(Alt::Go),
+                1 => Some(Alt::Act(0)),
+                _ => None,
+            },
+            Choices::Expire => { if n == 0 { Some(Alt::Expire) } else { None } }
+            Choices::ExpireOrAct => match n {
+                0 => Some(Alt::Expire),
                 1 => Some(Alt::Act(0)),
                 _ => None,
             },
@@ -266,7 +280,8 @@ fn nth_id(threads: &Threads, held: &SlotSet, n: usize) -> Option<u32>
 /// `act`, and where it must, `act` alone. One that is suspended at a cancellation point has `go`, if what it waits for may occur
 /// at any time, one that joins another, once that has ended, one in sem_wait, while the count is above 0, and one in waitpid, unless
 /// it has the child and the child has not ended; one that waits on a condition variable has none, and once it was unblocked it has `go`
-/// while its mutex has no owner. Each of them has `act`, if a request is pending and cancelability is enabled, unless a request
+/// while its mutex has no owner. One that waits with a time, and has no `go` or waits on a condition variable, has `expire`, if the run
+/// has texts of format 2. Each of them has `act`, if a request is pending and cancelability is enabled, unless a request
 /// unblocked it; one that a signal unblocked hands it on to a thread that waits, where one does. One that is ending has the keys that
 /// are left in its pass, after its cleanup handlers, and else `go`; one in fork and one that exits its process have `go`. A thread that
 /// has ended has none.
@@ -287,9 +302,13 @@ pub(crate) fn choices_at(context: &Context) -> Choices
             context.exit_value_with(id).is_some(),
             cancel.deliverable(),
         ),
-        Status::InSem(sem) => go_or_act(count_of(context.counts, sem) > 0, cancel.deliverable()),
+        Status::InSem(sem) => go_expire_or_act(
+            count_of(context.counts, sem) > 0,
+            can_expire(context),
+            cancel.deliverable(),
+        ),
         Status::InWaitPid(pid) => go_or_act(!context.is_running_child(pid), cancel.deliverable()),
-        Status::Waiting(_, _) => go_or_act(false, cancel.deliverable()),
+        Status::Waiting(_, _) => expire_or_act(can_expire(context), cancel.deliverable()),
         Status::Reacquire(cond, mutex, cause) => unblocked_choices(context, cond, mutex, cause),
         Status::Ending => ending_choices(context),
         Status::Forking(_) => Choices::Go,
@@ -330,7 +349,7 @@ fn unblocked_choices(context: &Context, cond: u32, mutex: u32, cause: Cause) -> 
     }
     match cause {
         Cause::Signalled => go_or_hand_on(free, &context.waiters(cond)),
-        Cause::Broadcast => go_or_act(free, true),
+        Cause::Broadcast | Cause::TimedOut => go_or_act(free, true),
         Cause::Canceled => go_or_act(free, false),
     }
 }
@@ -453,6 +472,39 @@ fn go_or_act(go: bool, act: bool) -> Choices
         (false, true) => Choices::Act,
         (false, false) => Choices::None,
     }
+}
+
+// `expire`, if the first test holds, and then `act`, if the second one does.
+fn expire_or_act(expire: bool, act: bool) -> Choices
+    ensures value { (threads : List Slot) (keys : Table) → listed threads keys result ≡ expire_if expire ++ act_if act }
+    ensures within { (threads : List Slot) → AreWithin threads result }
+{
+    match (expire, act) {
+        (true, true) => Choices::ExpireOrAct,
+        (true, false) => Choices::Expire,
+        (false, true) => Choices::Act,
+        (false, false) => Choices::None,
+    }
+}
+
+// `go`, if the first test holds, or else `expire`, if the second one does; and then `act`, if the third one does.
+fn go_expire_or_act(go: bool, expire: bool, act: bool) -> Choices
+    ensures value { (threads : List Slot) (keys : Table) → listed threads keys result ≡ go_if go ++ expire_if (expire && not go) ++ act_if act }
+    ensures within { (threads : List Slot) → AreWithin threads result }
+{
+    if go {
+        go_or_act(true, act)
+    } else {
+        expire_or_act(expire, act)
+    }
+}
+
+// Whether the time of a wait at the next statement may expire.
+#[tactic(auto, using(crate::proofs::EnvironmentRead::timeouts_read))]
+fn can_expire(context: &Context) -> bool
+    ensures { (environment : Environment) → IsEnvironment context.now environment → result ≡ can_expire environment (next_at context.now.position.next) }
+{
+    context.program.has_timeouts() && is_timed_next(&context.position.next)
 }
 
 // A signal to one of the threads on these slots, or `go` if there is none.

@@ -1,10 +1,10 @@
-//! The transitions of pthread_cond_wait, pthread_cond_signal and pthread_cond_broadcast. `next` is the program counter of the next
-//! statement.
+//! The transitions of pthread_cond_wait, pthread_cond_timedwait, pthread_cond_signal and pthread_cond_broadcast. `next` is the program
+//! counter of the next statement.
 
 ghost use Rattle.std.specs.Prelude.{◌≡◌, ℕ};
 ghost use Rattle.pct_model.specs.declared.schedule.Alt.TheVariants as alt;
 ghost use Rattle.pct_model.specs.declared.state.Cause.TheVariants as cause;
-ghost use Rattle.pct_model.specs.CondCalls.{begins_wait, reacquires, leaves_wait, hands_on, signals_by, broadcasts};
+ghost use Rattle.pct_model.specs.CondCalls.{begins_wait, expires, reacquires, leaves_wait, hands_on, signals_by, broadcasts};
 ghost use Rattle.pct_model.specs.NextStatement.{NextStatement, StatementIn};
 ghost use Rattle.pct_transitions.specs.Contexts.{IsWhole};
 ghost use Rattle.pct_transitions.specs.Positions.{next_at, IsAt};
@@ -13,26 +13,38 @@ use crate::context::Context;
 use crate::current::{At, next_pc};
 use crate::transitions::{acts, goes_on, no_change};
 use pct_model::{
-    Alt, COND_WAIT_POINT, Cause, NamedAction, OwnAction, Reason, SharedAction, Status, Stmt,
-    Transition, UpToThree, What,
+    Alt, COND_TIMEDWAIT_POINT, COND_WAIT_POINT, Caller, Cause, ETIMEDOUT, NamedAction, OwnAction,
+    Reason, SharedAction, Status, Stmt, Transition, UpToThree, What,
 };
 
 // ---- pthread_cond_wait
 
-/// pthread_cond_wait on a condition variable with a mutex, by their indexes: the thread releases the mutex and blocks.
+/// A call of the cancellation point with this index, on a condition variable with a mutex, by their indexes: the thread releases the mutex
+/// and blocks.
 #[tactic(auto, unfolding(pct_model::specs::CondCalls::begins_wait))]
-pub(crate) fn begins_wait(cond: u32, mutex: u32) -> Transition
-    ensures { result ≡ begins_wait cond mutex }
+pub(crate) fn begins_wait(point: u32, cond: u32, mutex: u32) -> Transition
+    ensures { result ≡ begins_wait point cond mutex }
 {
     Transition {
         own: Some(OwnAction::SetStatus(Status::Waiting(cond, mutex))),
         shared: Some(SharedAction::OwnMutex(mutex, 0)),
-        ..acts(UpToThree::two(What::Called(COND_WAIT_POINT), What::Released(mutex)))
+        ..acts(UpToThree::two(What::Called(point), What::Released(mutex)))
     }
 }
 
-/// A thread in this context that was unblocked owns its mutex again, and returns; or, if it was by a request, begins to end
-/// (XSH 2.9.5.2, pthread_cond_wait).
+/// The time of a wait on a condition variable with a mutex expires: the thread is unblocked (XSH pthread_cond_timedwait).
+#[tactic(auto, unfolding(pct_model::specs::CondCalls::expires))]
+pub(crate) fn expires(cond: u32, mutex: u32) -> Transition
+    ensures { result ≡ expires cond mutex }
+{
+    Transition {
+        own: Some(OwnAction::SetStatus(Status::Reacquire(cond, mutex, Cause::TimedOut))),
+        ..acts(UpToThree::one(What::WaitExpired(cond)))
+    }
+}
+
+/// A thread in this context that was unblocked owns its mutex again, and returns, with ETIMEDOUT if its time expired; or, if it was by a
+/// request, begins to end (XSH 2.9.5.2, pthread_cond_wait).
 #[tactic(auto, unfolding(pct_model::specs::CondCalls::reacquires))]
 #[inline(always)]
 pub(crate) fn reacquires(
@@ -47,6 +59,7 @@ pub(crate) fn reacquires(
 {
     match cause {
         Cause::Canceled => *transition = ends_in_wait(context.position.id, cond, mutex),
+        Cause::TimedOut => times_out(context, mutex, transition),
         Cause::Signalled | Cause::Broadcast => returns_from_wait(context, mutex, transition),
     }
 }
@@ -63,7 +76,44 @@ fn ends_in_wait(id: u32, cond: u32, mutex: u32) -> Transition
     }
 }
 
-// The thread owns its mutex again, and returns from pthread_cond_wait.
+// The thread owns its mutex again, and returns ETIMEDOUT.
+#[tactic(auto, unfolding(pct_model::specs::CondCalls::reacquires))]
+fn times_out(context: &Context, mutex: u32, transition: &mut Transition)
+    requires { IsWhole context.now }
+    ensures { (cond : ℕ) → transition.new ≡ reacquires context.now.position.id cond mutex cause.TimedOut (next_at context.now.position.next) }
+{
+    match &context.position.next {
+        None => *transition = no_change(),
+        Some(at) => *transition = times_out_in(context, at, mutex),
+    }
+}
+
+// The same, at a statement of its top frame.
+#[tactic(auto, using(crate::proofs::Bodies::pc_within), unfolding(pct_model::specs::CondCalls::reacquires))]
+fn times_out_in(context: &Context, at: &At, mutex: u32) -> Transition
+    requires { IsAt context.now.program.now.script at.now }
+    ensures { (cond : ℕ) → result ≡ reacquires context.now.position.id cond mutex cause.TimedOut (StatementIn at.now.frame.now at.now.statement.now) }
+{
+    match at.statement {
+        Stmt::CondTimedWait { result: answer, .. } => Transition {
+            writes: UpToThree::one((*answer, ETIMEDOUT)),
+            shared: Some(SharedAction::OwnMutex(mutex, context.position.id)),
+            ..goes_on(
+                next_pc(at.frame),
+                UpToThree::two(
+                    What::Acquired(mutex),
+                    What::Answer {
+                        call: Caller::CondTimedWait,
+                        number: ETIMEDOUT,
+                    },
+                ),
+            )
+        },
+        _ => no_change(),
+    }
+}
+
+// The thread owns its mutex again, and returns from its wait without an error.
 #[tactic(auto, unfolding(pct_model::specs::CondCalls::reacquires))]
 fn returns_from_wait(context: &Context, mutex: u32, transition: &mut Transition)
     requires { IsWhole context.now }
@@ -89,6 +139,14 @@ fn returns_in(context: &Context, at: &At, mutex: u32) -> Transition
             ..goes_on(
                 next_pc(at.frame),
                 UpToThree::two(What::Acquired(mutex), What::Done(COND_WAIT_POINT)),
+            )
+        },
+        Stmt::CondTimedWait { result: answer, .. } => Transition {
+            writes: UpToThree::one((*answer, 0)),
+            shared: Some(SharedAction::OwnMutex(mutex, context.position.id)),
+            ..goes_on(
+                next_pc(at.frame),
+                UpToThree::two(What::Acquired(mutex), What::Done(COND_TIMEDWAIT_POINT)),
             )
         },
         _ => no_change(),

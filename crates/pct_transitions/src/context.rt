@@ -1,6 +1,7 @@
 //! What the next step of a thread depends on.
 
 ghost use Rattle.std.specs.Prelude.{◌≡◌, Some, is_some, length, true};
+ghost use Rattle.pct_model.specs.Formats.{has_timeouts};
 ghost use Rattle.pct_model.specs.World.{Thread};
 ghost use Rattle.pct_engine_laws.specs.SeenSteps.{environment_in};
 ghost use Rattle.pct_process.specs.FamilyViews.{other_processes};
@@ -55,7 +56,7 @@ impl<'a> Context<'a> {
     #[inline(always)]
     pub(crate) fn new(around: Surroundings<'a>, process: &'a ProcessState, slot: u32) -> Context<'a>
         requires { is_some (thread_on_slot process.now.slots slot) ≡ true }
-        ensures context { (t : Thread) → thread_on_slot process.now.slots slot ≡ Some t → IsContext process.now.shared t (environment_in (length process.now.slots) (other_processes around.entry.family) process.now.slots t.id) result }
+        ensures context { (t : Thread) → thread_on_slot process.now.slots slot ≡ Some t → IsContext process.now.shared t (environment_in (has_timeouts around.entry.program.now.config.format) (length process.now.slots) (other_processes around.entry.family) process.now.slots t.id) result }
         ensures program { result.program.now ≡ around.entry.program.now }
         ensures whole { IsWhole result }
         ensures numbers { NewNumbersFit process.now → NumbersFit result.threads.now result.position.keys.now }

@@ -5,6 +5,7 @@ ghost use Rattle.pct_model.specs.declared.frame.Frame.{Frame as FrameRecord};
 ghost use Rattle.pct_model.specs.declared.limits.TheConstants.{MAX_STATEMENTS};
 ghost use Rattle.pct_model.specs.World.{statement_at, value_of};
 ghost use Rattle.pct_model.specs.ScriptStatements.{variable_value};
+ghost use Rattle.pct_model.specs.ChoiceTable.{is_timed_wait};
 ghost use Rattle.pct_model.specs.NextStatement.{next_of};
 ghost use Rattle.pct_transitions.specs.Positions.{next_at, IsDecoded};
 
@@ -28,6 +29,16 @@ pub fn next_of<'a>(script: &'a Script, top: Option<&'a Frame>) -> Option<At<'a>>
             None => None,
             Some(statement) => Some(At { frame, statement }),
         },
+    }
+}
+
+/// Whether the next statement is a wait with a time.
+pub(crate) fn is_timed_next(next: &Option<At>) -> bool
+    ensures { result ≡ is_timed_wait (next_at next.now) }
+{
+    match next {
+        None => false,
+        Some(at) => at.statement.is_timed(),
     }
 }
 

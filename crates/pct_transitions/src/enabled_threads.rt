@@ -1,7 +1,7 @@
 //! Whether a thread has a choice, without the list of its choices. All threads of a process are asked before each step, so that a call
 //! reads no more of the thread and of its process than it needs.
 
-ghost use Rattle.std.specs.Prelude.{◌≡◌, ◌&&◌, ◌||◌, ◌++◌, ℕ, List, Some, not, true, is_some, length, slice_index};
+ghost use Rattle.std.specs.Prelude.{◌≡◌, ◌&&◌, ◌||◌, ◌++◌, ℕ, Bool, List, Some, not, true, is_some, length, slice_index};
 ghost use Rattle.pct_model.specs.declared.statement.Stmt.{Stmt as Statement};
 ghost use Rattle.pct_model.specs.declared.state.Status.TheVariants as status;
 ghost use Rattle.pct_model.specs.Cancelability.{is_deliverable, is_asynchronous};
@@ -10,14 +10,15 @@ ghost use Rattle.pct_model.specs.NextStatement.{NextStatement, next_of};
 ghost use Rattle.pct_model.specs.MutexCalls.{is_free_mutex};
 ghost use Rattle.pct_model.specs.OtherProcesses.{Family as OtherProcesses};
 ghost use Rattle.pct_model.specs.Environment.{Waiter, Environment, is_ended_thread};
-ghost use Rattle.pct_model.specs.ChoiceTable.{choices_at, running_choices, unblocked_acts, go_if, act_if, is_enabled};
+ghost use Rattle.pct_model.specs.ChoiceTable.{choices_at, running_choices, unblocked_acts, go_if, expire_if, act_if, is_enabled, is_timed_wait};
+ghost use Rattle.pct_model.specs.Formats.{has_timeouts};
 ghost use Rattle.pct_model.specs.StopTable.{is_fork_kind};
 ghost use Rattle.pct_engine_laws.specs.SeenSteps.{environment_in};
 ghost use Rattle.pct_process.specs.ProcessViews.{thread_on_slot};
 ghost use Rattle.pct_transitions.specs.Positions.{next_at};
 ghost use Rattle.pct_transitions.specs.ThreadRecords.{IsRecord, HasCancelability};
 
-use crate::current::{At, next_of};
+use crate::current::{At, is_timed_next, next_of};
 use crate::mutex_calls::is_free_mutex;
 use crate::other_threads::exit_value_of;
 use crate::program::Program;
@@ -67,7 +68,7 @@ pub fn count_in(process: &ProcessState, sem: u32) -> u32
 /// Whether the thread of a process with this id has ended, as each thread of the process sees it.
 #[inline(always)]
 pub fn has_ended(process: &ProcessState, id: u32) -> bool
-    ensures { (family : OtherProcesses) (tid : ℕ) → result ≡ is_ended_thread id (environment_in (length process.now.slots) family process.now.slots tid) }
+    ensures { (timeouts : Bool) (family : OtherProcesses) (tid : ℕ) → result ≡ is_ended_thread id (environment_in timeouts (length process.now.slots) family process.now.slots tid) }
 {
     match process.threads.slot_named(id) {
         Some(slot) => exit_value_of(process.threads.read(slot).status).is_some(),
@@ -83,6 +84,31 @@ pub(crate) fn goes_or_acts(goes: bool, cancel: &Cancel) -> bool
     ensures { (t : Thread) → HasCancelability cancel.now t → result ≡ is_enabled (go_if goes ++ act_if (is_deliverable t.state t.pending)) }
 {
     goes || cancel.deliverable()
+}
+
+/// Whether a thread with this cancelability has a choice: the time of its wait may expire if the test holds, and it may act upon a request.
+#[inline(always)]
+pub(crate) fn expires_or_acts(expires: bool, cancel: &Cancel) -> bool
+    ensures { (t : Thread) → HasCancelability cancel.now t → result ≡ is_enabled (expire_if expires ++ act_if (is_deliverable t.state t.pending)) }
+{
+    expires || cancel.deliverable()
+}
+
+/// The same, where it may also go on if the first test holds, and its time expires only if it may not.
+#[inline(always)]
+pub(crate) fn goes_expires_or_acts(goes: bool, expires: bool, cancel: &Cancel) -> bool
+    ensures { (t : Thread) → HasCancelability cancel.now t → result ≡ is_enabled (go_if goes ++ expire_if (expires && not goes) ++ act_if (is_deliverable t.state t.pending)) }
+{
+    goes || expires_or_acts(expires, cancel)
+}
+
+/// Whether the time of a wait may expire at the next statement of the thread on a slot.
+#[inline(always)]
+pub(crate) fn may_expire(program: &Program, process: &ProcessState, slot: u32) -> bool
+    requires { is_some (thread_on_slot process.now.slots slot) ≡ true }
+    ensures { (t : Thread) → thread_on_slot process.now.slots slot ≡ Some t → result ≡ (has_timeouts program.now.config.format && is_timed_wait (next_of program.now.script t.frames)) }
+{
+    program.has_timeouts() && is_timed_next(&next_on(program, process, slot))
 }
 
 /// Whether a thread with this cancelability has a choice after it was unblocked on a condition variable by this cause, where it waits for
@@ -114,7 +140,7 @@ fn leaves_acts(cause: Cause) -> bool
     ensures { (waiters : List Waiter) → result ≡ is_enabled (unblocked_acts cause waiters) }
 {
     match cause {
-        Cause::Signalled | Cause::Broadcast => true,
+        Cause::Signalled | Cause::Broadcast | Cause::TimedOut => true,
         Cause::Canceled => false,
     }
 }

@@ -1,6 +1,7 @@
 //! The steps of the threads of a process.
 
 ghost use Rattle.std.specs.Prelude.{◌≡◌, Some, is_some, length, slice_get, true};
+ghost use Rattle.pct_model.specs.Formats.{has_timeouts};
 ghost use Rattle.pct_model.specs.World.{Thread};
 ghost use Rattle.pct_model.specs.Chosen.{item_at};
 ghost use Rattle.pct_engine_laws.specs.Fitting.{Fits};
@@ -13,7 +14,8 @@ use crate::cancel_calls::may_pass_point;
 use crate::choice_table::choices_at;
 use crate::context::{Context, Surroundings};
 use crate::enabled_threads::{
-    count_in, goes_or_acts, has_ended, reacquires_or_acts, record_of, runs_on,
+    count_in, expires_or_acts, goes_expires_or_acts, goes_or_acts, has_ended, may_expire,
+    reacquires_or_acts, record_of, runs_on,
 };
 use crate::transition_table::transition_by;
 use pct_model::{Alt, Status, Transition};
@@ -24,18 +26,24 @@ use pct_process::ProcessState;
 /// Whether the thread on a slot has a choice.
 pub fn has_choice(around: Surroundings, process: &ProcessState, slot: u32) -> bool
     requires { is_some (thread_on_slot process.now.slots slot) ≡ true }
-    ensures { (t : Thread) → thread_on_slot process.now.slots slot ≡ Some t → result ≡ is_ready_in around.entry.program.now.script (length process.now.slots) (other_processes around.entry.family) (with_data process.now) t }
+    ensures { (t : Thread) → thread_on_slot process.now.slots slot ≡ Some t → result ≡ is_ready_in around.entry.program.now.script (has_timeouts around.entry.program.now.config.format) (length process.now.slots) (other_processes around.entry.family) (with_data process.now) t }
 {
     let thread = record_of(process, slot);
     match thread.status {
         Status::Running => runs_on(around.program, process, slot, &thread.cancel),
-        Status::Waiting(_, _) => goes_or_acts(false, &thread.cancel),
+        Status::Waiting(_, _) => {
+            expires_or_acts(may_expire(around.program, process, slot), &thread.cancel)
+        }
         Status::Reacquire(_, mutex, cause) => {
             reacquires_or_acts(process, mutex, cause, &thread.cancel)
         }
         Status::AtPoint(index) => goes_or_acts(may_pass_point(index), &thread.cancel),
         Status::Joining(id) => goes_or_acts(has_ended(process, id), &thread.cancel),
-        Status::InSem(sem) => goes_or_acts(count_in(process, sem) > 0, &thread.cancel),
+        Status::InSem(sem) => goes_expires_or_acts(
+            count_in(process, sem) > 0,
+            may_expire(around.program, process, slot),
+            &thread.cancel,
+        ),
         Status::InWaitPid(pid) => {
             goes_or_acts(!around.family.is_running_child(pid), &thread.cancel)
         }
@@ -53,7 +61,7 @@ pub fn choice_by(
 ) -> Option<Alt>
     requires held { is_some (thread_on_slot process.now.slots slot) ≡ true }
     requires numbers { NewNumbersFit process.now }
-    ensures { (t : Thread) → thread_on_slot process.now.slots slot ≡ Some t → result ≡ item_at (choices_in around.entry.program.now.script (length process.now.slots) (other_processes around.entry.family) (with_data process.now) t) number }
+    ensures { (t : Thread) → thread_on_slot process.now.slots slot ≡ Some t → result ≡ item_at (choices_in around.entry.program.now.script (has_timeouts around.entry.program.now.config.format) (length process.now.slots) (other_processes around.entry.family) (with_data process.now) t) number }
 {
     let context = Context::new(around, process, slot);
     let choices = choices_at(&context);
@@ -72,7 +80,7 @@ pub fn choice_by(
 pub fn choice_count(around: Surroundings, process: &ProcessState, slot: u32) -> usize
     requires held { is_some (thread_on_slot process.now.slots slot) ≡ true }
     requires numbers { NewNumbersFit process.now }
-    ensures { (t : Thread) → thread_on_slot process.now.slots slot ≡ Some t → result ≡ length (choices_in around.entry.program.now.script (length process.now.slots) (other_processes around.entry.family) (with_data process.now) t) }
+    ensures { (t : Thread) → thread_on_slot process.now.slots slot ≡ Some t → result ≡ length (choices_in around.entry.program.now.script (has_timeouts around.entry.program.now.config.format) (length process.now.slots) (other_processes around.entry.family) (with_data process.now) t) }
 {
     let context = Context::new(around, process, slot);
     choices_at(&context).count(context.position.keys)
@@ -87,7 +95,7 @@ pub fn choice_at(
 ) -> Option<Alt>
     requires held { is_some (thread_on_slot process.now.slots slot) ≡ true }
     requires numbers { NewNumbersFit process.now }
-    ensures { (t : Thread) → thread_on_slot process.now.slots slot ≡ Some t → result ≡ slice_get (choices_in around.entry.program.now.script (length process.now.slots) (other_processes around.entry.family) (with_data process.now) t) index }
+    ensures { (t : Thread) → thread_on_slot process.now.slots slot ≡ Some t → result ≡ slice_get (choices_in around.entry.program.now.script (has_timeouts around.entry.program.now.config.format) (length process.now.slots) (other_processes around.entry.family) (with_data process.now) t) index }
 {
     let context = Context::new(around, process, slot);
     choices_at(&context).nth(context.threads, context.position.keys, index)

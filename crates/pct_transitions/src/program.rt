@@ -1,6 +1,7 @@
 //! A script that is run: the script, the configuration of the run, and the script's jump table.
 
 ghost use Rattle.std.specs.Prelude.{◌≡◌, IsTrue, IfOk};
+ghost use Rattle.pct_model.specs.Formats.{has_timeouts};
 ghost use Rattle.pct_model.specs.Run.{is_config};
 
 use pct_io::NoMemory;
@@ -41,5 +42,12 @@ impl Program {
             config,
             jumps,
         })
+    }
+
+    /// Whether the time of a wait may expire in the run.
+    pub fn has_timeouts(&self) -> bool
+        ensures { result ≡ has_timeouts self.now.config.format }
+    {
+        self.config.format.has_timeouts()
     }
 }

@@ -67,7 +67,9 @@ fn own_stop(context: &Context, at: &At) -> Option<Why>
             !owns(context.owners, *mutex, position.id),
             Why::NotOwner,
         )]),
-        Stmt::CondWait { cond, mutex } => stop_of_wait(context, *cond, *mutex),
+        Stmt::CondWait { cond, mutex } | Stmt::CondTimedWait { cond, mutex, .. } => stop_of_wait(
+            context, *cond, *mutex,
+        ),
         Stmt::Fork { .. } => first_stop(&[(
             has_begun_to_end(position.thread.reason),
             Why::ForkInEnding,

@@ -17,7 +17,7 @@ use crate::cancel_calls::{
     acts_on_request, calls_point, passes_point, requests, sets_mode, sets_state, tests_cancel,
 };
 use crate::cleanup_handlers::{pops, pushes};
-use crate::cond_calls::{begins_wait, broadcasts, reacquires, signals_by};
+use crate::cond_calls::{begins_wait, broadcasts, expires, reacquires, signals_by};
 use crate::context::Context;
 use crate::current::{At, next_pc, value_of, variable_value};
 use crate::fork_calls::{
@@ -37,15 +37,19 @@ use crate::thread_calls::{CreateCall, begins_join, creates_by, detaches, gets_se
 use crate::thread_ends::{ends_by_exit, goes_on_ending};
 use crate::transitions::{no_change, stops};
 use pct_keys::key_place;
-use pct_model::{Alt, ForkHandlers, Status, Stmt, Transition};
+use pct_model::{
+    Alt, COND_TIMEDWAIT_POINT, COND_WAIT_POINT, ForkHandlers, SEM_TIMEDWAIT_POINT, SEM_WAIT_POINT,
+    Status, Stmt, Transition,
+};
 
-/// Writes to `transition` what a thread in this context does by a choice. By `act` it acts upon a request. By every other choice it
-/// goes on: a running thread stops the run, or makes the transition of its next statement; one that is suspended at a cancellation
-/// point goes on; one that joins another returns, once that has ended; one in sem_wait takes the semaphore; one in waitpid reaps the
-/// child; one that was unblocked on a condition variable owns its mutex again; one that is ending runs its handlers and destructors
-/// and ends; one in fork calls its fork handlers, makes the child, or returns; one that exits its process runs the functions
-/// registered with atexit and ends it; every other thread changes nothing. The program counter and the actions, one after another,
-/// keep the limits, where a thread in fork has room for the frame of a fork handler.
+/// Writes to `transition` what a thread in this context does by a choice. By `act` it acts upon a request. By every other choice
+/// it goes on: a running thread stops the run, or makes the transition of its next statement; one that is suspended at a
+/// cancellation point goes on; one that joins another returns, once that has ended; one in sem_wait takes the semaphore, or its
+/// time expires; one in waitpid reaps the child; one that waits on a condition variable is unblocked as its time expires; one
+/// that was unblocked on a condition variable owns its mutex again; one that is ending runs its handlers and destructors and
+/// ends; one in fork calls its fork handlers, makes the child, or returns; one that exits its process runs the functions
+/// registered with atexit and ends it; every other thread changes nothing. The program counter and the actions, one after
+/// another, keep the limits, where a thread in fork has room for the frame of a fork handler.
 pub(crate) fn transition_by(context: &Context, choice: Alt, transition: &mut Transition)
     requires { IsWhole context.now }
     ensures value { (shared : SharedState) (t : Thread) (environment : Environment) → IsContext shared t environment context.now
@@ -74,8 +78,9 @@ fn transition_at(context: &Context, choice: Alt, transition: &mut Transition)
         Status::Running => running(context, choice, transition),
         Status::AtPoint(index) => passes_point(context, index, transition),
         Status::Joining(id) => joins_at(context, id, transition),
-        Status::InSem(sem) => ends_sem_wait(context, sem, transition),
+        Status::InSem(sem) => ends_sem_wait(context, choice, sem, transition),
         Status::InWaitPid(pid) => waits_at(context, pid, transition),
+        Status::Waiting(cond, mutex) => *transition = expires(cond, mutex),
         Status::Reacquire(cond, mutex, cause) => {
             reacquires(context, cond, mutex, cause, transition);
         }
@@ -220,12 +225,18 @@ fn runs(context: &Context, at: &At, choice: Alt, transition: &mut Transition)
         }
         Stmt::Lock(mutex) => *transition = locks(next_pc(frame), *mutex, position.id),
         Stmt::Unlock(mutex) => *transition = unlocks(next_pc(frame), *mutex),
-        Stmt::CondWait { cond, mutex } => *transition = begins_wait(*cond, *mutex),
+        Stmt::CondWait { cond, mutex } => {
+            *transition = begins_wait(COND_WAIT_POINT, *cond, *mutex);
+        }
+        Stmt::CondTimedWait { cond, mutex, .. } => {
+            *transition = begins_wait(COND_TIMEDWAIT_POINT, *cond, *mutex);
+        }
         Stmt::Signal(cond) => signals_by(choice, next_pc(frame), *cond, transition),
         Stmt::Broadcast(cond) => {
             *transition = broadcasts(next_pc(frame), *cond, context.waiters(*cond).len());
         }
-        Stmt::SemWait(sem) => *transition = begins_sem_wait(*sem),
+        Stmt::SemWait(sem) => *transition = begins_sem_wait(SEM_WAIT_POINT, *sem),
+        Stmt::SemTimedWait { sem, .. } => *transition = begins_sem_wait(SEM_TIMEDWAIT_POINT, *sem),
         Stmt::SemPost(sem) => {
             *transition = posts(next_pc(frame), *sem, count_of(context.counts, *sem));
         }

@@ -41,6 +41,11 @@ go_disabled : (go : Bool) (rest : List Alt) → is_enabled (go_if go ++ rest) �
 go_disabled true rest none = absurd (true≢false none)
 go_disabled false rest none = refl
 
+-- nor where other choices stand between
+go_disabled_before : (go : Bool) (others rest : List Alt) → is_enabled (go_if go ++ others ++ rest) ≡ false → go ≡ false
+go_disabled_before true others rest none = absurd (true≢false none)
+go_disabled_before false others rest none = refl
+
 -- where there is no choice, none is offered
 none_offered : (choices : List Alt) (c : Alt) → is_enabled choices ≡ false → offers choices c ≡ false
 none_offered [] c none = refl
@@ -93,7 +98,7 @@ module _ (body : List Stmt) (shared : SharedState) (t : Thread) (environment : E
       ∙ waits_at_blocked shared environment frame s (true_from_ne_false (is_blocked s shared) (λ free. true≢false (sym (running_enabled body shared t environment frame s free) ∙ none)))
   disabled_waits next (status.AtPoint index) has alive none = suspended_waits shared environment (status.AtPoint index) _ alive none
   disabled_waits next (status.Joining id) has alive none = suspended_waits shared environment (status.Joining id) _ alive none
-  disabled_waits next (status.InSem s) has alive none = suspended_waits shared environment (status.InSem s) _ alive none
+  disabled_waits next (status.InSem s) has alive none = waits_unless_goes shared environment (status.InSem s) alive ∙ ap not (go_disabled_before (nat_lt 0 (slice_index shared.counts s)) _ _ none)
   disabled_waits next (status.InWaitPid pid) has alive none = suspended_waits shared environment (status.InWaitPid pid) _ alive none
   disabled_waits next (status.Waiting c m) has alive none = waits_unless_goes shared environment (status.Waiting c m) alive
   disabled_waits next (status.Reacquire c m why) has alive none = suspended_waits shared environment (status.Reacquire c m why) _ alive none
@@ -135,9 +140,9 @@ blocked_threads_wait script config entries after l is among =
     let live : HasValidId p t.id t = with_valid_id t.id p t (ids_of_made config.slots w pids p.pid p made).distinct listed.holds in
     let kept = (every_state_is_kept script config entries after is).threads p.pid p made t.id t live.found live.here in
     let body : List Stmt = body_at script t.frames in
-    let environment : Environment = environment_of config.slots w p t.id in
+    let environment : Environment = environment_of config w p t.id in
     let next : NextStatement = next_of script t.frames in
     subst IsBlockedIfWaiting listed.same (record {
-      blocked = waiting_blocked body p.shared t environment next t.status (choices_of script config w p t) (λ offered. may_go_on (offered_of body p.shared t environment alt.Go next t.status offered) refl) listed.unended;
+      blocked = waiting_blocked body p.shared t environment next t.status (choices_of script config w p t) (λ offered. may_go_on (offered_of body p.shared t environment alt.Go next t.status offered) refl refl) listed.unended;
       waits = disabled_waits body p.shared t environment next t.status (λ runs. runs_at_statement script t.frames (kept.frames ∙ ap has_no_frame runs) kept.places) listed.unended;
     })

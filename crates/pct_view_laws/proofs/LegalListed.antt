@@ -21,6 +21,7 @@ same_choice-self (alt.Act n) = eq-eqb n n refl
 same_choice-self (alt.New n) = eq-eqb n n refl
 same_choice-self (alt.Pick n) = eq-eqb n n refl
 same_choice-self (alt.Dtor n) = eq-eqb n n refl
+same_choice-self alt.Expire = refl
 
 same_choice-is : (a b : Alt) → same_choice a b ≡ true → a ≡ b
 same_choice-is alt.Go alt.Go same = refl
@@ -28,6 +29,7 @@ same_choice-is (alt.Act n) (alt.Act m) same = ap (λ (k : ℕ). alt.Act k) (eqb-
 same_choice-is (alt.New n) (alt.New m) same = ap (λ (k : ℕ). alt.New k) (eqb-true n m same)
 same_choice-is (alt.Pick n) (alt.Pick m) same = ap (λ (k : ℕ). alt.Pick k) (eqb-true n m same)
 same_choice-is (alt.Dtor n) (alt.Dtor m) same = ap (λ (k : ℕ). alt.Dtor k) (eqb-true n m same)
+same_choice-is alt.Expire alt.Expire same = refl
 same_choice-is _ _ same = absurd (false≢true same)
 
 -- a choice of a list is offered, and one that is offered is of the list
@@ -76,7 +78,7 @@ module _ (script : Script) (config : Config) (w : World) (pids : HavePids config
         same = refl;
         live = subst (λ (n : ℕ). find (is_live_process n) w.processes ≡ Some p) (sym pid) legal.live;
         holds = subst (λ (n : ℕ). with_id n p.threads ≡ Some t) (sym tid) legal.holds;
-        unended = offered_alive (offered_of (body_at script t.frames) p.shared t (environment_of config.slots w p t.id) e.alt (next_of script t.frames) t.status legal.offered);
+        unended = offered_alive (offered_of (body_at script t.frames) p.shared t (environment_of config w p t.id) e.alt (next_of script t.frames) t.status legal.offered);
       } in
       let same : entry_by l e.alt ≡ e = λ i. record { worker = sym first i; pid = pid i; tid = tid i; alt = e.alt } in
       joined_contained (entries_of w) (listed_threads script config w) l e (is_listed script config w l pids.some listed)

@@ -29,17 +29,17 @@ none_after_end f None threads = refl
 none_after_end f (Some end) threads = cond_same (not end.reaped) []
 
 -- a thread of a process, as it is listed
-listed_thread_seen : (script : Script) (config : Config) (w : World) (p : Process) (t : Thread) → 0 < config.slots → listed_of script config w p t ≡ listed_in script config.slots (family_in (seen config.slots w) p.pid) (seen_process config.slots p) t
+listed_thread_seen : (script : Script) (config : Config) (w : World) (p : Process) (t : Thread) → 0 < config.slots → listed_of script config w p t ≡ listed_in script config (family_in (seen config.slots w) p.pid) (seen_process config.slots p) t
 listed_thread_seen script config w p t some =
     ap (λ (environment : Environment). record {
       pid = p.pid;
       thread = t;
       choices = choices_at (body_at script t.frames) p.shared t environment (next_of script t.frames) t.status;
       wait = wait_by p.shared environment (choices_at (body_at script t.frames) p.shared t environment (next_of script t.frames) t.status) (next_of script t.frames) t.status;
-    }) (environment_seen config.slots t.id w p some)
+    }) (environment_seen config t.id w p some)
 
 -- the threads of a process that are listed
-listed_of_process : (script : Script) (config : Config) (w : World) (p : Process) → 0 < config.slots → cond (not (was_reaped p.ended)) (listed_process script config.slots (family_in (seen config.slots w) p.pid) (seen_process config.slots p)) [] ≡ map (listed_of script config w p) (unended_of config p)
+listed_of_process : (script : Script) (config : Config) (w : World) (p : Process) → 0 < config.slots → cond (not (was_reaped p.ended)) (listed_process script config (family_in (seen config.slots w) p.pid) (seen_process config.slots p)) [] ≡ map (listed_of script config w p) (unended_of config p)
 listed_of_process script config w p some =
     let kept : SeenProcess = seen_process config.slots p in
     let on_slots : (Thread → ListedThread) → List ListedThread = λ listed. flat_map (λ (s : SeenSlot). map listed (filter is_unended s.here)) kept.slots in
@@ -53,7 +53,7 @@ listed_of_process script config w p some =
 pub listed_is_seen : (script : Script) (config : Config) (w : World) → 0 < config.slots → listed_threads script config w ≡ listed_seen script config (seen config.slots w)
 unfolding listed_threads listed_seen
 listed_is_seen script config w some =
-    let listed : SeenProcess → List ListedThread = λ p. listed_process script config.slots (family_in (seen config.slots w) p.pid) p in
+    let listed : SeenProcess → List ListedThread = λ p. listed_process script config (family_in (seen config.slots w) p.pid) p in
     sym
     (flat_map-map listed (seen_process config.slots) (filter (λ p. not (was_reaped p.ended)) w.processes)
     ∙ flat_map-filter (λ p. listed (seen_process config.slots p)) (λ (p : Process). not (was_reaped p.ended)) w.processes

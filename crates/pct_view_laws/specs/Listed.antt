@@ -25,7 +25,7 @@ pub record ListedThread : Type 0 where
 
 -- what a thread of a process waits for
 abbrev pub wait_of : Script → Config → World → Process → Thread → Option Wait
-wait_of script config w p t = wait_by p.shared (environment_of config.slots w p t.id) (choices_of script config w p t) (next_of script t.frames) t.status
+wait_of script config w p t = wait_by p.shared (environment_of config w p t.id) (choices_of script config w p t) (next_of script t.frames) t.status
 
 -- a thread of a process, as it is listed
 abbrev pub listed_of : Script → Config → World → Process → Thread → ListedThread

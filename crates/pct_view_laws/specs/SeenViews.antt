@@ -3,6 +3,7 @@ use Rattle.std.specs.Prelude.{◌≡◌, ℕ, ◌<◌, if◌then◌else◌, List
 use Rattle.pct_model.specs.declared.schedule.Config.{Config}
 use Rattle.pct_model.specs.declared.schedule.Entry.{Entry}
 use Rattle.pct_model.specs.declared.script.Script.{Script}
+use Rattle.pct_model.specs.Formats.{has_timeouts}
 use Rattle.pct_model.specs.NextStatement.{next_of}
 use Rattle.pct_model.specs.OtherProcesses.{Family}
 use Rattle.pct_model.specs.World.{Thread, World}
@@ -13,14 +14,14 @@ use Rattle.pct_view_laws.specs.Listed.{ListedThread, is_unended, listed_threads}
 use Rattle.pct_view_laws.specs.TracedSteps.{start_of, start_in}
 use Rattle.pct_view_laws.specs.Waits.{wait_by}
 
-module _ (script : Script) (slots : ℕ) (family : Family) (p : SeenProcess) where
+module _ (script : Script) (config : Config) (family : Family) (p : SeenProcess) where
   -- a thread of a process, which sees these other processes, as it is listed
   abbrev pub listed_in : Thread → ListedThread
   listed_in t = record {
     pid = p.pid;
     thread = t;
-    choices = choices_in script slots family p t;
-    wait = wait_by p.shared (environment_in slots family p.slots t.id) (choices_in script slots family p t) (next_of script t.frames) t.status;
+    choices = choices_in script (has_timeouts config.format) config.slots family p t;
+    wait = wait_by p.shared (environment_in (has_timeouts config.format) config.slots family p.slots t.id) (choices_in script (has_timeouts config.format) config.slots family p t) (next_of script t.frames) t.status;
   }
 
   -- the threads on a slot of the process, which has not ended, that have not ended
@@ -33,7 +34,7 @@ module _ (script : Script) (slots : ℕ) (family : Family) (p : SeenProcess) whe
 
 -- those of all processes
 unfoldable pub listed_seen : Script → Config → Seen → List ListedThread
-listed_seen script config v = flat_map (λ p. listed_process script config.slots (family_in v p.pid) p) v.processes
+listed_seen script config v = flat_map (λ p. listed_process script config (family_in v p.pid) p) v.processes
 
 -- where the step of an entry begins
 abbrev pub start_seen : ℕ → Seen → Entry → Option StepStart

@@ -26,11 +26,12 @@ module _ (shared : SharedState) (environment : Environment) where
   wait_in (status.AtPoint index) = if may_pass_point index then None else Some wait.Signal
   -- XSH pthread_join: the target has not terminated
   wait_in (status.Joining id) = if is_ended_thread id environment then None else Some (wait.Thread id)
-  -- XSH sem_wait: the count is 0
+  -- XSH sem_wait, sem_timedwait: the count is 0
   wait_in (status.InSem s) = if nat_lt 0 (slice_index shared.counts s) then None else Some (wait.Semaphore s)
   -- XSH waitpid: the child has not ended
   wait_in (status.InWaitPid pid) = if is_running_child pid environment.family then Some (wait.Process pid) else None
-  -- XSH pthread_cond_wait: until a signal or a broadcast, and after it until the mutex has no owner
+  -- XSH pthread_cond_wait, pthread_cond_timedwait: until a signal or a broadcast, or until the time expires, and after it until the mutex has
+  -- no owner
   wait_in (status.Waiting c m) = Some (wait.Condition c)
   wait_in (status.Reacquire c m why) = mutex_wait m
   wait_in _ = None

@@ -7,7 +7,7 @@ use Rattle.pct_view_laws.specs.TracedSteps.{TracedStep}
 use Rattle.pct_views.specs.declared.thread_view.ThreadView.{ThreadView}
 use Rattle.pct_views.specs.ShownThreads.{ShowsThread}
 use Rattle.pct_view_texts.specs.Fields.{Phrase, phrase_text, field_text, fields_text, word_field}
-use Rattle.pct_view_texts.specs.Positions.{position_phrases, statement_phrases}
+use Rattle.pct_view_texts.specs.Positions.{is_timed_at, position_phrases, statement_phrases}
 use Rattle.pct_view_texts.specs.Trace.{start_phrases, step_fields}
 use Rattle.pct_view_texts.specs.Choices.{cancelability, handler_phrase, status_and_wait, thread_fields}
 use Rattle.pct_view_texts.proofs.Appending.{as_text, then_text}
@@ -39,7 +39,7 @@ shown_line : (lines : List (List ℕ)) (script : Script) (l : ListedThread) (vie
     (word_field (thread_text view.pid view.tid)
     ∷ position_phrases lines script view.start.position
     ∷ statement_phrases script view.start.position
-    ∷ status_and_wait script view.pid view.start.status view.wait
+    ∷ status_and_wait script view.pid (is_timed_at script view.start.position) view.start.status view.wait
     ∷ cancelability view.cancel.state view.cancel.mode view.cancel.pending
     ∷ map (handler_phrase script) view.handlers.now
     ∷ [])
@@ -67,12 +67,12 @@ module _ {E : Type 0} (r : Result (Unit {0}) E) (old : List ℕ) (lines : List (
   -- the parts of a thread's line were appended
   pub thread_line : (places new : List ℕ) (l : ListedThread) (view : ThreadView) → ShowsThread l view
       → places ≡ old ++ (thread_text view.pid view.tid ++ 9 ∷ field_text (position_phrases lines script view.start.position) ++ 9 ∷ field_text (statement_phrases script view.start.position))
-      → OnOk r (new ≡ places ++ (9 ∷ field_text (status_and_wait script view.pid view.start.status view.wait) ++ 9 ∷ field_text (cancelability view.cancel.state view.cancel.mode view.cancel.pending) ++ 9 ∷ field_text (map (handler_phrase script) view.handlers.now) ++ 10 ∷ []))
+      → OnOk r (new ≡ places ++ (9 ∷ field_text (status_and_wait script view.pid (is_timed_at script view.start.position) view.start.status view.wait) ++ 9 ∷ field_text (cancelability view.cancel.state view.cancel.mode view.cancel.pending) ++ 9 ∷ field_text (map (handler_phrase script) view.handlers.now) ++ 10 ∷ []))
       → OnOk r (new ≡ old ++ fields_text (thread_fields lines script l))
   thread_line places new l view shows first second =
       let place = position_phrases lines script view.start.position in
       let statement = statement_phrases script view.start.position in
-      let wait = status_and_wait script view.pid view.start.status view.wait in
+      let wait = status_and_wait script view.pid (is_timed_at script view.start.position) view.start.status view.wait in
       let state = cancelability view.cancel.state view.cancel.mode view.cancel.pending in
       let handlers = map (handler_phrase script) view.handlers.now in
       as_text r old new _ _ (thread_parts (thread_text view.pid view.tid) place statement wait state handlers ∙ shown_line lines script l view shows)

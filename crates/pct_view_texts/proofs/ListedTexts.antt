@@ -95,13 +95,13 @@ numbers_fit program v (Some p) view shown = subst NewNumbersFit (sym shown.state
 
 -- what holds of the threads of a process that is shown
 pub of_shown : (P : List ListedThread → Type 0) (program : ProgramValue) (v : Seen) (found : Option SeenProcess) (view : ProcessView) → ShowsIfSome program v found (Some view)
-    → ((family : Family) (p : SeenProcess) → ShowsProcess program family p view → P (listed_process program.script program.config.slots family p)) → P (listed_if_some program.script program.config v found)
+    → ((family : Family) (p : SeenProcess) → ShowsProcess program family p view → P (listed_process program.script program.config family p)) → P (listed_if_some program.script program.config v found)
 of_shown P program v None view shown each = absurd (none-some view (sym shown))
 of_shown P program v (Some p) view shown each = each (family_in v p.pid) p shown
 
 -- the threads of the first processes were appended. The number of the processes is known once one was looked for
 pub record AreAppended (old new : List ℕ) (text : ListedThread → List ℕ) (script : Script) (config : Config) (v : Seen) (i : ℕ) : Type 0 where
-  pub text_is : new ≡ old ++ flat_map text (flat_map (λ p. listed_process script config.slots (family_in v p.pid) p) (take i v.processes))
+  pub text_is : new ≡ old ++ flat_map text (flat_map (λ p. listed_process script config (family_in v p.pid) p) (take i v.processes))
   pub few : 0 < i → length v.processes ≤ 8
 
 -- and then those of the next one, if there is one
@@ -109,7 +109,7 @@ pub next_process : (old mid new : List ℕ) (text : ListedThread → List ℕ) (
     → length v.processes ≤ 8 → new ≡ mid ++ flat_map text (listed_if_some script config v (slice_get v.processes i)) → AreAppended old new text script config v (i + 1)
 next_process old mid new text script config v i appended few next = record {
   text_is =
-      let of : SeenProcess → List ListedThread = λ p. listed_process script config.slots (family_in v p.pid) p in
+      let of : SeenProcess → List ListedThread = λ p. listed_process script config (family_in v p.pid) p in
       both_texts old mid new (flat_map text (flat_map of (take i v.processes))) (flat_map text (listed_if_some script config v (slice_get v.processes i))) appended.text_is next
       ∙ ap (λ (all : List ℕ). old ++ all) (sym (flat_map-append text (flat_map of (take i v.processes)) (listed_if_some script config v (slice_get v.processes i))) ∙ ap (flat_map text) (next_joined of v.processes i));
   few = λ some. few;
@@ -121,7 +121,7 @@ pub all_processes : (old new : List ℕ) (text : ListedThread → List ℕ) (scr
 unfolding listed_seen
 all_processes old new text script config v i appended end =
     let few : length v.processes ≤ 8 = appended.few (omega arith) in
-    appended.text_is ∙ ap (λ (ps : List SeenProcess). old ++ flat_map text (flat_map (λ p. listed_process script config.slots (family_in v p.pid) p) ps)) (take_all i v.processes (omega arith))
+    appended.text_is ∙ ap (λ (ps : List SeenProcess). old ++ flat_map text (flat_map (λ p. listed_process script config (family_in v p.pid) p) ps)) (take_all i v.processes (omega arith))
 
 -- ---- the text
 

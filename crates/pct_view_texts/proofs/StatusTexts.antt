@@ -1,5 +1,5 @@
 -- The phrases of statuses and of waits.
-use Rattle.pct_names.proofs.Names.{◌++◌, codes, List, refl, Script, Status, ℕ, ◌≡◌}
+use Rattle.pct_names.proofs.Names.{◌++◌, Bool, codes, List, refl, Script, Status, ℕ, ◌≡◌}
 use Rattle.pct_model.specs.declared.state.Status.TheVariants as status
 use Rattle.pct_view_laws.specs.declared.wait.Wait.{Wait}
 use Rattle.pct_view_laws.specs.declared.wait.Wait.TheVariants as wait
@@ -19,16 +19,16 @@ before_wait phrases script pid (wait.Condition c) = phrases_before phrases _ _
 before_wait phrases script pid wait.Signal = phrases_before phrases _ _
 
 -- the status of a thread that waits and is not running, before the wait
-pub before_comma_if_not_running : (script : Script) (s : Status) → (s ≡ status.Running → ⊥) → before_comma (status_of_waiting script s) ≡ field_text (status_phrases script s) ++ codes ", "
+pub before_comma_if_not_running : (script : Script) (timed : Bool) (s : Status) → (s ≡ status.Running → ⊥) → before_comma (status_of_waiting script timed s) ≡ field_text (status_phrases script timed s) ++ codes ", "
 unfolding status_phrases
-before_comma_if_not_running script status.Running not = absurd (not refl)
-before_comma_if_not_running script (status.AtPoint index) not = refl
-before_comma_if_not_running script (status.Joining id) not = refl
-before_comma_if_not_running script (status.InSem s) not = refl
-before_comma_if_not_running script (status.InWaitPid pid) not = refl
-before_comma_if_not_running script (status.Waiting c m) not = refl
-before_comma_if_not_running script (status.Reacquire c m why) not = refl
-before_comma_if_not_running script status.Ending not = refl
-before_comma_if_not_running script (status.Forking at) not = refl
-before_comma_if_not_running script status.Exiting not = refl
-before_comma_if_not_running script (status.Ended v) not = refl
+before_comma_if_not_running script timed status.Running not = absurd (not refl)
+before_comma_if_not_running script timed (status.AtPoint index) not = refl
+before_comma_if_not_running script timed (status.Joining id) not = refl
+before_comma_if_not_running script timed (status.InSem s) not = refl
+before_comma_if_not_running script timed (status.InWaitPid pid) not = refl
+before_comma_if_not_running script timed (status.Waiting c m) not = refl
+before_comma_if_not_running script timed (status.Reacquire c m why) not = refl
+before_comma_if_not_running script timed status.Ending not = refl
+before_comma_if_not_running script timed (status.Forking at) not = refl
+before_comma_if_not_running script timed status.Exiting not = refl
+before_comma_if_not_running script timed (status.Ended v) not = refl

@@ -19,7 +19,7 @@ use Rattle.pct_view_laws.specs.declared.wait.Wait.TheVariants as wait
 use Rattle.pct_view_laws.specs.Listed.{ListedThread, listed_threads, entries_of}
 use Rattle.pct_view_laws.specs.TracedSteps.{position_of}
 use Rattle.pct_view_texts.specs.Fields.{Phrase, fields_text, word_field}
-use Rattle.pct_view_texts.specs.Positions.{position_phrases, statement_phrases, status_phrases}
+use Rattle.pct_view_texts.specs.Positions.{is_timed_at, position_phrases, statement_phrases, status_phrases}
 
 -- ---- statuses and waits
 
@@ -36,15 +36,15 @@ wait_phrases script pid (wait.Semaphore s) = waits_for (codes "semaphore" ∷ se
 wait_phrases script pid (wait.Condition c) = waits_for (codes "condition" ∷ codes "variable" ∷ cond_name script c ∷ []) ∷ []
 wait_phrases script pid wait.Signal = waits_for (codes "a" ∷ codes "signal" ∷ []) ∷ []
 
--- the status of a thread that waits: that of a running thread is not named
-abbrev pub status_of_waiting : Script → Status → List Phrase
-status_of_waiting script status.Running = []
-status_of_waiting script s = status_phrases script s
+-- the status of a thread that waits: that of a running thread is not named; the flag: its next statement is a wait with a time
+abbrev pub status_of_waiting : Script → Bool → Status → List Phrase
+status_of_waiting script timed status.Running = []
+status_of_waiting script timed s = status_phrases script timed s
 
--- the status of a thread of a process with this id, and what it waits for, if it waits
-unfoldable pub status_and_wait : Script → ℕ → Status → Option Wait → List Phrase
-status_and_wait script pid s None = status_phrases script s
-status_and_wait script pid s (Some wait) = status_of_waiting script s ++ wait_phrases script pid wait
+-- the status of a thread of a process with this id, and what it waits for, if it waits; the flag: its next statement is a wait with a time
+unfoldable pub status_and_wait : Script → ℕ → Bool → Status → Option Wait → List Phrase
+status_and_wait script pid timed s None = status_phrases script timed s
+status_and_wait script pid timed s (Some wait) = status_of_waiting script timed s ++ wait_phrases script pid wait
 
 -- ---- cancelability and handlers
 
@@ -86,7 +86,7 @@ module _ (lines : List (List ℕ)) (script : Script) where
       word_field (thread_text l.pid l.thread.id)
       ∷ position_phrases lines script (position_of l.thread)
       ∷ statement_phrases script (position_of l.thread)
-      ∷ status_and_wait script l.pid l.thread.status l.wait
+      ∷ status_and_wait script l.pid (is_timed_at script (position_of l.thread)) l.thread.status l.wait
       ∷ cancelability_phrases l.thread
       ∷ handler_phrases script l.thread
       ∷ []

@@ -36,7 +36,7 @@ lines_by lines script going l = fields_text (thread_fields lines script l) ++ (i
 
 -- the threads of a process that are listed, if there is a process
 abbrev pub listed_if_some : Script → Config → Seen → Option SeenProcess → List ListedThread
-listed_if_some script config v found = option_map_or (λ p. listed_process script config.slots (family_in v p.pid) p) found []
+listed_if_some script config v found = option_map_or (λ p. listed_process script config (family_in v p.pid) p) found []
 
 -- the line of a thread of a process, with its values
 abbrev pub values_lines : List (List ℕ) → Script → ListedProcess → Thread → List ℕ

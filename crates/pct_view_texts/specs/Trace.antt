@@ -14,14 +14,14 @@ use Rattle.pct_model.specs.Run.{Run, verdict_of}
 use Rattle.pct_view_laws.specs.declared.position.StepStart.{StepStart}
 use Rattle.pct_view_laws.specs.TracedSteps.{TracedStep, steps_of}
 use Rattle.pct_view_texts.specs.Fields.{Phrase, fields_text, word_field}
-use Rattle.pct_view_texts.specs.Positions.{position_phrases, statement_phrases, status_phrases}
+use Rattle.pct_view_texts.specs.Positions.{is_timed_at, position_phrases, statement_phrases, status_phrases}
 
 -- below, `lines` has the numbers of the lines of the script's statements
 module _ (lines : List (List ℕ)) (script : Script) where
   -- where a step begins, by the status of its thread: the position of the thread if it is running, else the status
   abbrev pub start_phrases_by : Status → StepStart → List Phrase
   start_phrases_by status.Running start = position_phrases lines script start.position
-  start_phrases_by s start = status_phrases script s
+  start_phrases_by s start = status_phrases script (is_timed_at script start.position) s
 
   -- where a step begins
   abbrev pub start_phrases : StepStart → List Phrase

@@ -22,6 +22,7 @@ pub(crate) fn push_choice(text: &mut TextBuffer, choice: Alt) -> Result<(), NoMe
         Alt::New(n) => push_numbered(text, Keyword::New, n),
         Alt::Pick(n) => push_numbered(text, Keyword::Pick, n),
         Alt::Dtor(n) => push_numbered(text, Keyword::Dtor, n),
+        Alt::Expire => text.push(Keyword::Expire.text()),
     }
 }
 
@@ -46,5 +47,6 @@ pub fn push_entry(text: &mut TextBuffer, entry: &Entry) -> Result<(), NoMemory>
         Alt::New(n) => text.push_line(&[worker, pid, tid, word(Keyword::New), Field::Number(n)]),
         Alt::Pick(n) => text.push_line(&[worker, pid, tid, word(Keyword::Pick), Field::Number(n)]),
         Alt::Dtor(n) => text.push_line(&[worker, pid, tid, word(Keyword::Dtor), Field::Number(n)]),
+        Alt::Expire => text.push_line(&[worker, pid, tid, word(Keyword::Expire)]),
     }
 }

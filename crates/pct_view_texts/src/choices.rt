@@ -102,7 +102,7 @@ fn push_threads(
 ) -> Result<(), NoMemory>
     requires { NewNumbersFit process.state.now }
     ensures { (program : ProgramValue) (family : Family) (p : SeenProcess) → ShowsProcess program family p process.entry
-        → Appends text.old text.new (flat_map (lines_by listing.entry.source.lines.now listing.entry.source.script.now listing.entry.goes_on) (listed_process program.script program.config.slots family p)) result }
+        → Appends text.old text.new (flat_map (lines_by listing.entry.source.lines.now listing.entry.source.script.now listing.entry.goes_on) (listed_process program.script program.config family p)) result }
 {
     for slot in 0..process.state.slot_count() {
         push_slot(text, listing, process, slot)?;

@@ -1,7 +1,8 @@
 //! The position of a thread, and the statement there.
 
+ghost use Rattle.std.specs.Prelude.{◌≡◌};
 ghost use Rattle.pct_view_texts.specs.Fields.{field_text};
-ghost use Rattle.pct_view_texts.specs.Positions.{position_phrases, position_text, statement_phrases};
+ghost use Rattle.pct_view_texts.specs.Positions.{is_timed_at, position_phrases, position_text, statement_phrases};
 ghost use Rattle.pct_view_texts.specs.TextBuffers.{Appends};
 
 use crate::{Source, TextBuffer};
@@ -57,4 +58,21 @@ pub(crate) fn push_statement(
         Ok(()) => Ok(()),
         Err(Failed) => Err(NoMemory),
     }
+}
+
+/// Whether the statement at the position of a thread is a wait with a time.
+#[tactic(auto, unfolding(pct_view_laws::specs::TracedSteps::statement_on))]
+pub(crate) fn is_timed_at(script: &Script, position: Option<Position>) -> bool
+    ensures { result ≡ is_timed_at script.now position }
+{
+    let Some(position) = position else {
+        return false;
+    };
+    let Some(func) = script.funcs.as_slice().get(position.func as usize) else {
+        return false;
+    };
+    let Some(statement) = func.body.as_slice().get(position.pc as usize) else {
+        return false;
+    };
+    statement.is_timed()
 }

@@ -6,41 +6,66 @@ ghost use Rattle.pct_model.specs.declared.line_kind.LineKind.TheVariants as line
 ghost use Rattle.pct_model.specs.EventTexts.{cond_name, mutex_name};
 ghost use Rattle.pct_model.specs.LineKinds.{is_no_point};
 ghost use Rattle.pct_view_texts.specs.Fields.{field_text, phrase_text};
-ghost use Rattle.pct_view_texts.specs.Positions.{cause_words, in_call, phase_words, status_phrases};
+ghost use Rattle.pct_view_texts.specs.Positions.{cause_words, cond_wait_kind, in_call, phase_words, sem_wait_kind, status_phrases};
 ghost use Rattle.pct_view_texts.specs.TextBuffers.{Appends};
 ghost use Rattle.pct_view_texts.specs.Trace.{start_phrases};
 
-use crate::position::push_position;
+use crate::position::{is_timed_at, push_position};
 use crate::{Source, TextBuffer};
 use pct_io::{Field, NoMemory};
 use pct_model::{Cause, Keyword, LineKind, Phase, Script, Status};
 use pct_report::names::{cond, keyword_of, mutex, point, sem, word};
 use pct_views::StepStart;
 
-/// Appends the status of a thread.
+/// Appends the status of a thread. `timed`: its next statement is a wait with a time.
 #[tactic(auto, unfolding(crate::specs::Fields::field_text, crate::specs::Positions::status_phrases))]
 pub(crate) fn push_status(
     text: &mut TextBuffer,
     script: &Script,
+    timed: bool,
     status: Status,
 ) -> Result<(), NoMemory>
-    ensures { Appends text.old text.new (field_text (status_phrases script.now status)) result }
+    ensures { Appends text.old text.new (field_text (status_phrases script.now timed status)) result }
 {
     match status {
         Status::Running => text.push(b"running"),
         Status::AtPoint(index) => push_point(text, index),
         Status::Joining(id) => push_call(text, LineKind::Join, Field::Number(id)),
-        Status::InSem(index) => push_call(text, LineKind::SemWait, sem(script, index)),
+        Status::InSem(index) => push_call(text, sem_wait_kind(timed), sem(script, index)),
         Status::InWaitPid(pid) => push_call(text, LineKind::WaitPid, Field::Number(pid)),
-        Status::Waiting(c, m) => push_cond_wait(text, script, c, m),
+        Status::Waiting(c, m) => push_cond_wait(text, script, timed, c, m),
         Status::Reacquire(c, m, why) => {
-            push_cond_wait(text, script, c, m)?;
+            push_cond_wait(text, script, timed, c, m)?;
             push_cause(text, why)
         }
         Status::Ending => text.push(Keyword::Ending.text()),
         Status::Forking(at) => push_forking(text, at.phase),
         Status::Exiting => text.push(b"exiting"),
         Status::Ended(value) => text.push_words(&[word(Keyword::Ended), Field::Number(value)]),
+    }
+}
+
+// sem_wait or, with the flag, sem_timedwait.
+fn sem_wait_kind(timed: bool) -> LineKind
+    ensures kind { result ≡ sem_wait_kind timed }
+    ensures no_point { is_no_point result ≡ true }
+{
+    if timed {
+        LineKind::SemTimedWait
+    } else {
+        LineKind::SemWait
+    }
+}
+
+// pthread_cond_wait or, with the flag, pthread_cond_timedwait.
+fn cond_wait_kind(timed: bool) -> LineKind
+    ensures kind { result ≡ cond_wait_kind timed }
+    ensures no_point { is_no_point result ≡ true }
+{
+    if timed {
+        LineKind::CondTimedWait
+    } else {
+        LineKind::CondWait
     }
 }
 
@@ -60,12 +85,18 @@ fn push_call(text: &mut TextBuffer, kind: LineKind, argument: Field) -> Result<(
 }
 
 // Appends the wait on a condition variable in which a thread is.
-fn push_cond_wait(text: &mut TextBuffer, script: &Script, c: u32, m: u32) -> Result<(), NoMemory>
-    ensures { Appends text.old text.new (phrase_text (in_call line_kind.CondWait (cond_name script.now c ∷ mutex_name script.now m ∷ []))) result }
+fn push_cond_wait(
+    text: &mut TextBuffer,
+    script: &Script,
+    timed: bool,
+    c: u32,
+    m: u32,
+) -> Result<(), NoMemory>
+    ensures { Appends text.old text.new (phrase_text (in_call (cond_wait_kind timed) (cond_name script.now c ∷ mutex_name script.now m ∷ []))) result }
 {
     text.push_words(&[
         Field::Text(b"in"),
-        keyword_of(LineKind::CondWait),
+        keyword_of(cond_wait_kind(timed)),
         cond(script, c),
         mutex(script, m),
     ])
@@ -79,6 +110,7 @@ fn push_cause(text: &mut TextBuffer, cause: Cause) -> Result<(), NoMemory>
         Cause::Signalled => text.push(b", unblocked by a signal"),
         Cause::Broadcast => text.push(b", unblocked by a broadcast"),
         Cause::Canceled => text.push(b", acts on a request"),
+        Cause::TimedOut => text.push(b", unblocked as its time expired"),
     }
 }
 
@@ -105,6 +137,9 @@ pub(crate) fn push_start(
 {
     match start.status {
         Status::Running => push_position(text, source, start.position),
-        status => push_status(text, source.script, status),
+        status => {
+            let timed = is_timed_at(source.script, start.position);
+            push_status(text, source.script, timed, status)
+        }
     }
 }

@@ -6,7 +6,7 @@ ghost use Rattle.pct_view_laws.specs.Listed.{ListedThread};
 ghost use Rattle.pct_views.specs.ShownThreads.{ShowsThread};
 ghost use Rattle.pct_view_texts.specs.Choices.{cancelability, handler_phrase, mode_word, state_word, status_and_wait, thread_fields};
 ghost use Rattle.pct_view_texts.specs.Fields.{field_text, fields_text};
-ghost use Rattle.pct_view_texts.specs.Positions.{position_phrases, statement_phrases};
+ghost use Rattle.pct_view_texts.specs.Positions.{is_timed_at, position_phrases, statement_phrases};
 ghost use Rattle.pct_view_texts.specs.TextBuffers.{Appends};
 
 use crate::handlers::push_handlers;
@@ -46,7 +46,7 @@ fn push_place(text: &mut TextBuffer, source: Source, thread: &ThreadView) -> Res
 // Appends the status of a thread and what it waits for, its cancelability and its handlers, each after a tab, and the end of
 // the line.
 fn push_state(text: &mut TextBuffer, script: &Script, thread: &ThreadView) -> Result<(), NoMemory>
-    ensures { Appends text.old text.new (9 ∷ field_text (status_and_wait script.now thread.now.pid thread.now.start.status thread.now.wait) ++ 9 ∷ field_text (cancelability thread.now.cancel.state thread.now.cancel.mode thread.now.cancel.pending) ++ 9 ∷ field_text (map (handler_phrase script.now) thread.now.handlers.now) ++ 10 ∷ []) result }
+    ensures { Appends text.old text.new (9 ∷ field_text (status_and_wait script.now thread.now.pid (is_timed_at script.now thread.now.start.position) thread.now.start.status thread.now.wait) ++ 9 ∷ field_text (cancelability thread.now.cancel.state thread.now.cancel.mode thread.now.cancel.pending) ++ 9 ∷ field_text (map (handler_phrase script.now) thread.now.handlers.now) ++ 10 ∷ []) result }
 {
     text.push(b"\t")?;
     push_status_and_wait(text, script, thread)?;

@@ -4,9 +4,11 @@ ghost use Rattle.std.specs.Prelude.{[], ◌∷◌, ◌++◌, codes};
 ghost use Rattle.pct_io.specs.Fields.{field_text as word_text};
 ghost use Rattle.pct_view_texts.specs.Choices.{status_and_wait, status_of_waiting, wait_phrases, waits_for};
 ghost use Rattle.pct_view_texts.specs.Fields.{before_comma, field_text, phrase_text};
+ghost use Rattle.pct_view_texts.specs.Positions.{is_timed_at};
 ghost use Rattle.pct_view_texts.specs.TextBuffers.{Appends};
 
 use crate::TextBuffer;
+use crate::position::is_timed_at;
 use crate::status::push_status;
 use pct_io::{Field, NoMemory};
 use pct_model::{Script, Status};
@@ -20,28 +22,31 @@ pub(crate) fn push_status_and_wait(
     script: &Script,
     thread: &ThreadView,
 ) -> Result<(), NoMemory>
-    ensures { Appends text.old text.new (field_text (status_and_wait script.now thread.now.pid thread.now.start.status thread.now.wait)) result }
+    ensures { Appends text.old text.new (field_text (status_and_wait script.now thread.now.pid (is_timed_at script.now thread.now.start.position) thread.now.start.status thread.now.wait)) result }
 {
     let status = thread.start.status;
+    let timed = is_timed_at(script, thread.start.position);
     let Some(wait) = thread.wait else {
-        return push_status(text, script, status);
+        return push_status(text, script, timed, status);
     };
-    push_status_of_waiting(text, script, status)?;
+    push_status_of_waiting(text, script, timed, status)?;
     push_wait(text, script, thread.pid, wait)
 }
 
-// Appends the status of a thread that waits, before a comma, or nothing if the thread is running.
+// Appends the status of a thread that waits, before a comma, or nothing if the thread is running. `timed`: its next statement is a wait with a
+// time.
 fn push_status_of_waiting(
     text: &mut TextBuffer,
     script: &Script,
+    timed: bool,
     status: Status,
 ) -> Result<(), NoMemory>
-    ensures { Appends text.old text.new (before_comma (status_of_waiting script.now status)) result }
+    ensures { Appends text.old text.new (before_comma (status_of_waiting script.now timed status)) result }
 {
     match status {
         Status::Running => Ok(()),
         _ => {
-            push_status(text, script, status)?;
+            push_status(text, script, timed, status)?;
             text.push(b", ")
         }
     }

@@ -1,6 +1,7 @@
 -- The threads of a process that is shown, as they are listed.
-use Rattle.pct_names.proofs.Names.{[], All, Alt, ap, arith, Bool, cases_lt, cond, false, Family, filter, get_or_past, inl, inr, is_some}
-use Rattle.pct_names.proofs.Names.{length, List, map, none-some, same_Some, Script, Some, subst, sym, Thread, true, ℕ, ◌∙◌, ◌∷◌, ◌≡◌, ◌≤◌}
+use Rattle.pct_names.proofs.Names.{[], All, Alt, ap, arith, Bool, cases_lt, cond, false, Family, filter, get_or_past, has_timeouts, inl}
+use Rattle.pct_names.proofs.Names.{inr, is_some, length, List, map, none-some, same_Some, Some, subst, sym, Thread, true, ℕ, ◌∙◌, ◌∷◌, ◌≡◌}
+use Rattle.pct_names.proofs.Names.{◌≤◌}
 use Rattle.pct_engine_laws.specs.Seen.{SeenSlot, SeenProcess}
 use Rattle.pct_engine_laws.specs.SeenSteps.{choices_in}
 use Rattle.pct_process.specs.FamilyViews.{other_processes}
@@ -31,9 +32,9 @@ one_of f (u ∷ []) t l few first is = by (is_unended u) is where
   by false none = cc
 one_of f (u ∷ next ∷ rest) t l few first is = absurd (omega (arith, few))
 
--- the choices of a thread of a process with this data
-abbrev choices_by : Script → ℕ → Family → ProcessData → Thread → List Alt
-choices_by script slots family d t = choices_in script slots family (with_data d) t
+-- the choices of a thread of a process with this data, of a run of a program
+abbrev choices_by : ProgramValue → ℕ → Family → ProcessData → Thread → List Alt
+choices_by program slots family d t = choices_in program.script (has_timeouts program.config.format) slots family (with_data d) t
 
 -- of a thread of a process that is shown
 module _ (program : ProgramValue) (family : Family) (p : SeenProcess) (view : ProcessView) (shown : ShowsProcess program family p view) (t : Thread) where
@@ -41,13 +42,13 @@ module _ (program : ProgramValue) (family : Family) (p : SeenProcess) (view : Pr
   d = view.state.now
 
   -- the choices
-  pub choices_are : choices_by view.around.program.now.script (length d.slots) (other_processes view.around.family) d t ≡ choices_in program.script program.config.slots family p t
+  pub choices_are : choices_by view.around.program.now (length d.slots) (other_processes view.around.family) d t ≡ choices_in program.script (has_timeouts program.config.format) program.config.slots family p t
   choices_are =
-      (λ i. choices_by (shown.program_is i).script (length (shown.state_is i).slots) (shown.family_is i) (shown.state_is i) t)
-      ∙ ap (λ (n : ℕ). choices_by program.script n family (data_in p) t) shown.can_step.all
+      (λ i. choices_by (shown.program_is i) (length (shown.state_is i).slots) (shown.family_is i) (shown.state_is i) t)
+      ∙ ap (λ (n : ℕ). choices_by program n family (data_in p) t) shown.can_step.all
 
   abbrev listed : Thread → ListedThread
-  listed u = listed_in program.script program.config.slots family p u
+  listed u = listed_in program.script program.config family p u
 
   -- a thread on a slot that is listed is the one on the slot
   pub listed_alone : (slot : ℕ) (l : ListedThread) → All (λ s. length s.here ≤ 1) d.slots → thread_on_slot d.slots slot ≡ Some t → listed_at program family p slot ≡ l ∷ [] → listed t ≡ l

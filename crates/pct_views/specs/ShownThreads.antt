@@ -14,7 +14,7 @@ use Rattle.pct_views.specs.declared.thread_view.ThreadView.{ThreadView}
 
 -- the threads on a slot of a process that have not ended, in a process that has not ended
 abbrev pub listed_at : ProgramValue → Family → SeenProcess → ℕ → List ListedThread
-listed_at program family p slot = if is_some p.ended then [] else listed_on program.script program.config.slots family p (slot_on p.slots slot)
+listed_at program family p slot = if is_some p.ended then [] else listed_on program.script program.config family p (slot_on p.slots slot)
 
 -- this is the record of the thread on a slot, which has not ended
 pub record IsUnended (slots : List SeenSlot) (slot : ℕ) (kept : Record) : Type 0 where

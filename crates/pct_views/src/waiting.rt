@@ -2,6 +2,7 @@
 
 ghost use Rattle.std.specs.Prelude.{◌≡◌, if◌then◌else◌, true, is_some, length, Some, None};
 ghost use Rattle.pct_engine_laws.specs.SeenSteps.{choices_in, environment_in};
+ghost use Rattle.pct_model.specs.Formats.{has_timeouts};
 ghost use Rattle.pct_model.specs.NextStatement.{next_of};
 ghost use Rattle.pct_model.specs.Environment.{Environment};
 ghost use Rattle.pct_model.specs.World.{Thread};
@@ -23,8 +24,8 @@ use pct_view_laws::Wait;
 pub(crate) fn wait_on(around: Surroundings, state: &ProcessState, slot: u32) -> Option<Wait>
     requires { is_some (thread_on_slot state.now.slots slot) ≡ true }
     ensures { (t : Thread) → thread_on_slot state.now.slots slot ≡ Some t
-        → result ≡ wait_by state.now.shared (environment_in (length state.now.slots) (other_processes around.entry.family) state.now.slots t.id)
-        (choices_in around.entry.program.now.script (length state.now.slots) (other_processes around.entry.family) (with_data state.now) t) (next_of around.entry.program.now.script t.frames) t.status }
+        → result ≡ wait_by state.now.shared (environment_in (has_timeouts around.entry.program.now.config.format) (length state.now.slots) (other_processes around.entry.family) state.now.slots t.id)
+        (choices_in around.entry.program.now.script (has_timeouts around.entry.program.now.config.format) (length state.now.slots) (other_processes around.entry.family) (with_data state.now) t) (next_of around.entry.program.now.script t.frames) t.status }
 {
     match record_of(state, slot).status {
         Status::Running => {

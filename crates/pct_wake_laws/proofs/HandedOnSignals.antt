@@ -35,6 +35,7 @@ module _ (threads : List Thread) where
       → ((c m : ℕ) → s ≡ status.Reacquire c m cause.Signalled → Hands (status.Reacquire c m cause.Signalled) o.events) → Hands s o.events
   case_hands (canceled_after_wait next c m cause.Signalled stays asked) owes = owes c m refl
   case_hands (canceled_after_wait next c m cause.Broadcast stays asked) owes = refl
+  case_hands (canceled_after_wait next c m cause.TimedOut stays asked) owes = refl
   case_hands (canceled_after_wait next c m cause.Canceled stays asked) owes = refl
   case_hands (signal_handed_on next c m u asked among) owes = owes c m refl
   case_hands {s = s} (fork_handler_called next at call is) owes = of_each_phase (λ (w : What). Hands s (w ∷ [])) call.func refl refl refl at.phase
@@ -91,20 +92,20 @@ module _ (slots passes : ℕ) (body : List Stmt) (shared : SharedState) (threads
 -- ---- each step of a run
 
 -- what a thread sees of those that wait
-pub sees : (slots : ℕ) (w : World) (p : Process) (id c : ℕ) → (environment_of slots w p id).waiters c ≡ waiters_among c (by_slot slots p.threads)
+pub sees : (config : Config) (w : World) (p : Process) (id c : ℕ) → (environment_of config w p id).waiters c ≡ waiters_among c (by_slot config.slots p.threads)
 unfolding environment_of
-sees slots w p id c = refl
+sees config w p id c = refl
 
 module _ (script : Script) (config : Config) where
   handed_on_of_step : (before : List Entry) (r : Run) → run script config before ≡ Some r → (e : Entry) (p : Process) (t : Thread) → IsTaken script config r.world e p t → hands_its_signal_on (step_of script config r p e t) ≡ true
   handed_on_of_step before r is e p t taken =
       let moves : Moves script config r.world p e t = moves_of_run script config before r is e p t taken in
       let body : List Stmt = body_at script t.frames in
-      let environment : Environment = environment_of config.slots r.world p t.id in
+      let environment : Environment = environment_of config r.world p t.id in
       let next : NextStatement = next_of script t.frames in
       case_hands p.threads (case_of_step script config r.world p e t moves) (λ c m was.
       subst (λ (s : Status). offers (choices_at body p.shared t environment next s) e.alt ≡ true → Hands p.threads (status.Reacquire c m cause.Signalled) (acts_or e.alt s (transition_at config.passes body p.shared t environment e.alt next s)).events) (sym was)
-      (unblocked_hands config.slots config.passes body p.shared p.threads t environment moves.some moves.ids (sees config.slots r.world p t.id) e.alt next c m) taken.offered)
+      (unblocked_hands config.slots config.passes body p.shared p.threads t environment moves.some moves.ids (sees config r.world p t.id) e.alt next c m) taken.offered)
 
   -- each thread of a run hands its signal on as the law says
   pub handed_on_of_run : EveryStep script config (λ s. hands_its_signal_on s ≡ true)

@@ -1,5 +1,6 @@
 pub mod WaitingThreads
 pub mod SeenWaiters
+pub mod OwnChoices
 pub mod OtherThreads
 pub mod OwnWaits
 pub mod HandedOnSignals

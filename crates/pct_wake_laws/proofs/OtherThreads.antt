@@ -12,7 +12,6 @@ use Rattle.pct_model.specs.CondCalls as machine
 use Rattle.pct_model.specs.declared.event.What.TheVariants as what
 use Rattle.pct_model.specs.declared.state.Cause.TheVariants as cause
 use Rattle.pct_model.specs.declared.state.Status.TheVariants as status
-use Rattle.pct_laws.specs.StatementLaw.{waits_on}
 use Rattle.pct_laws.specs.WakeLaw.{is_blocked_on, unblocked, KeepsOther, KeepsOthers}
 use Rattle.pct_transition_cases.proofs.TransitionCases.{TransitionCase, join_ended, thread_detached, request_sent, signal_handed_on}
 use Rattle.pct_transition_cases.proofs.TransitionCases.{signal_sent, signal_lost, broadcast_sent, fork_handler_called, key_deleted}
@@ -25,7 +24,7 @@ use Rattle.pct_thread_invariants.proofs.lift.TakenSteps.{IsTaken}
 use Rattle.pct_thread_invariants.proofs.lift.ThreadIds.{ids_of}
 use Rattle.pct_thread_invariants.proofs.lift.ThreadsAfter.{Moves, After, was_made, is_new, is_absent, after}
 use Rattle.pct_wake_laws.proofs.SeenWaiters.{same_blocked, find_some, found_among, has_number}
-use Rattle.pct_wake_laws.proofs.WaitingThreads.{waits_by_id}
+use Rattle.pct_wake_laws.proofs.WaitingThreads.{waits_by_id, waits_on}
 
 -- ---- the words of the law
 
@@ -185,7 +184,7 @@ module _ (tid : ℕ) (p : Process) (distinct : AreDistinct (ids_of p.threads)) (
 module _ (script : Script) (config : Config) where
   others_of_step : (before : List Entry) (r : Run) → run script config before ≡ Some r → (e : Entry) (p : Process) (t : Thread) → IsTaken script config r.world e p t → KeepsOthers (step_of script config r p e t)
   unfolding environment_of
-  others_of_step before r is e p t taken tid u differs found here =
+  others_of_step before r is e p t taken tid u differs found =
       let o : Transition = transition_by script config r.world p t e.alt in
       let moves : Moves script config r.world p e t = moves_of_run script config before r is e p t taken in
       let distinct : AreDistinct (ids_of p.threads) = moves.ids.distinct in

@@ -6,11 +6,10 @@ use Rattle.pct_names.proofs.Names.{◌∙◌, ◌∷◌, ◌≡◌}
 use Rattle.std.proofs.Common.{eq-eqb, eqb-true, ne_eqb, true≢false}
 use Rattle.std.proofs.Math.Path.{fun_ext}
 use Rattle.pct_model.specs.declared.state.Status.TheVariants as status
-use Rattle.pct_laws.specs.StatementLaw.{waits_on}
 use Rattle.pct_laws.specs.WakeLaw.{is_blocked_on, is_waiter, waits_with_id}
 use Rattle.pct_thread_invariants.proofs.lift.KeyedLists.{index_among}
 use Rattle.pct_thread_invariants.proofs.lift.ThreadIds.{HaveIds, ids_of}
-use Rattle.pct_wake_laws.proofs.WaitingThreads.{any_counted, count_some, count_waiting, waits_by_id}
+use Rattle.pct_wake_laws.proofs.WaitingThreads.{any_counted, count_some, count_waiting, waits_by_id, waits_on}
 
 -- ---- the words of the law
 
@@ -40,7 +39,7 @@ any_found {X} p (y ∷ xs) x found = by (p y) (any_found p xs x) found
     by true later found = refl
     by false later found = later found
 
-pub none_counted : {X : Type 0} (p : X → Bool) (xs : List X) → nat_eq (count_by p xs) 0 ≡ not (list_any p xs)
+none_counted : {X : Type 0} (p : X → Bool) (xs : List X) → nat_eq (count_by p xs) 0 ≡ not (list_any p xs)
 none_counted p xs = by (nat_eq (count_by p xs) 0) (list_any p xs) refl refl
   where
     by : (none any : Bool) → nat_eq (count_by p xs) 0 ≡ none → list_any p xs ≡ any → none ≡ not any

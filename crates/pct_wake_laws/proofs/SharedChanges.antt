@@ -1,11 +1,13 @@
--- What a step makes of the state that its process shares, and that it takes a semaphore only where its count is above 0.
-use Rattle.pct_names.proofs.Names.{◌++◌, [], acts_on_request, acts_or, Alt, and_from, ap, body_at, Bool, cond, Config, Dest, Entry}
+-- What a step makes of the state that its process shares; that it takes a semaphore only where its count is above 0, and that the time of a
+-- wait for one expires only where it is 0.
+use Rattle.pct_names.proofs.Names.{◌++◌, [], acts_on_request, acts_or, Alt, and_from, ap, arith, body_at, Bool, cond, Config, Dest, Entry}
 use Rattle.pct_names.proofs.Names.{Environment, environment_of, false, ForkHandlers, Frame, goes_on, length, List, list_all}
-use Rattle.pct_names.proofs.Names.{MAX_FORK_HANDLERS, may_register, nat_lt, next_of, NextStatement, None, NoStatement, Option, Process}
-use Rattle.pct_names.proofs.Names.{refl, registers_fork, registers_if, Run, run, runs, Script, shared_after, shared_moved, SharedState}
-use Rattle.pct_names.proofs.Names.{slice_index, Some, StatementIn, Status, Stmt, stop_at, stops_or, subst, sym, Thread, Transition}
-use Rattle.pct_names.proofs.Names.{transition_at, transition_by, true, What, Why, ℕ, ◌∙◌, ◌∷◌, ◌≡◌}
-use Rattle.std.proofs.Common.{append-nil, true≢false}
+use Rattle.pct_names.proofs.Names.{MAX_FORK_HANDLERS, may_register, nat_eq, nat_lt, next_of, NextStatement, None, NoStatement, Option}
+use Rattle.pct_names.proofs.Names.{Process, refl, registers_fork, registers_if, Run, run, runs, Script, shared_after, shared_moved}
+use Rattle.pct_names.proofs.Names.{SharedState, slice_index, Some, StatementIn, Status, Stmt, stop_at, stops_or, subst, sym, Thread}
+use Rattle.pct_names.proofs.Names.{Transition, transition_at, transition_by, true, What, Why, ℕ, ◌∙◌, ◌∷◌, ◌≡◌, ◌≤◌}
+use Rattle.std.proofs.Common.{append-nil, eq-eqb, true≢false}
+use Rattle.std.proofs.lemmas.Bool.{ltb-false}
 use Rattle.pct_model.specs.declared.event.Caller.TheVariants as caller
 use Rattle.pct_model.specs.declared.event.What.TheVariants as what
 use Rattle.pct_model.specs.declared.schedule.Alt.TheVariants as alt
@@ -17,15 +19,22 @@ use Rattle.pct_model.specs.Actions.{without_first}
 use Rattle.pct_laws.specs.ThreadSteps.{ThreadStep}
 use Rattle.pct_laws.specs.AfterAll.{after_all}
 use Rattle.pct_laws.specs.CancelLaw.{is_running}
-use Rattle.pct_laws.specs.SharedLaw.{exits_after, new_exits, new_fork_handlers, is_above_0, takes_above_0, ChangesShared, SharedLaw}
+use Rattle.pct_laws.specs.SharedLaw.{exits_after, new_exits, new_fork_handlers, is_above_0, takes_above_0, is_at_0, times_out_at_0}
+use Rattle.pct_laws.specs.SharedLaw.{ChangesShared, SharedLaw}
 use Rattle.pct_transition_cases.proofs.TransitionCases.{TransitionCase, exit_registered, exit_function_called, fork_registered, sem_taken}
-use Rattle.pct_transition_cases.proofs.TransitionCases.{fork_handler_called}
+use Rattle.pct_transition_cases.proofs.TransitionCases.{timed_sem_taken, sem_wait_timed_out, fork_handler_called}
 use Rattle.pct_thread_invariants.proofs.lift.ChangedThreads.{changed_shared}
 use Rattle.pct_thread_invariants.proofs.lift.EveryProcess.{moves_of_run}
 use Rattle.pct_thread_invariants.proofs.lift.HandlerEvents.{of_each_phase}
 use Rattle.pct_thread_invariants.proofs.lift.MovedThreads.{EveryStep, each_step, step_of, case_of_step, every_step}
 use Rattle.pct_thread_invariants.proofs.lift.TakenSteps.{IsTaken}
 use Rattle.pct_thread_invariants.proofs.lift.ThreadsAfter.{Moves, mover}
+
+-- ---- counts
+
+-- a count that is not above 0 is 0
+is_0 : (n : ℕ) → nat_lt 0 n ≡ false → nat_eq n 0 ≡ true
+is_0 n none = let most : n ≤ 0 = ltb-false 0 n none in eq-eqb n 0 (omega (arith, most))
 
 -- ---- registrations
 
@@ -128,8 +137,15 @@ module _ {passes : ℕ} {body : List Stmt} {shared : SharedState} {t : Thread} {
   -- it takes a semaphore only where its count is above 0
   case_above : {next : NextStatement} {s : Status} {o : Transition} → TransitionCase passes body shared t environment true next s o → list_all (is_above_0 shared.counts) o.events ≡ true
   case_above (sem_taken frame n sem above) = and_from (nat_lt 0 (slice_index shared.counts sem)) true (above refl) refl
+  case_above (timed_sem_taken frame result n sem above) = and_from (nat_lt 0 (slice_index shared.counts sem)) true (above refl) refl
   case_above (fork_handler_called next at call is) = of_each_phase (λ (w : What). list_all (is_above_0 shared.counts) (w ∷ []) ≡ true) call.func refl refl refl at.phase
   case_above _ = refl
+
+  -- the time of a wait for a semaphore expires only where the count is 0
+  case_at_0 : {next : NextStatement} {s : Status} {o : Transition} → TransitionCase passes body shared t environment true next s o → list_all (is_at_0 shared.counts s) o.events ≡ true
+  case_at_0 (sem_wait_timed_out frame result n sem none) = and_from (nat_eq (slice_index shared.counts sem) 0) true (is_0 (slice_index shared.counts sem) (none refl)) refl
+  case_at_0 {s = s} (fork_handler_called next at call is) = of_each_phase (λ (w : What). list_all (is_at_0 shared.counts s) (w ∷ []) ≡ true) call.func refl refl refl at.phase
+  case_at_0 _ = refl
 
 -- ---- each step of a run
 
@@ -145,7 +161,7 @@ module _ (script : Script) (config : Config) where
       let next : NextStatement = next_of script t.frames in
       subst (λ (after : SharedState). ChangesShared e.tid o.events t.status next p.shared after) (sym (changed_shared e.tid o p))
       (subst (λ (tid : ℕ). ChangesShared tid o.events t.status next p.shared (shared_moved o p.shared)) (mover script config r.world p e t moves).number
-      (case_changes (case_of_step script config r.world p e t moves) (agrees config.passes (body_at script t.frames) p.shared t (environment_of config.slots r.world p t.id) e.alt next t.status)))
+      (case_changes (case_of_step script config r.world p e t moves) (agrees config.passes (body_at script t.frames) p.shared t (environment_of config r.world p t.id) e.alt next t.status)))
 
   changes_of_run : EveryStep script config IsLawful
   changes_of_run = every_step script config IsLawful changes_of_step
@@ -156,9 +172,16 @@ module _ (script : Script) (config : Config) where
   above_0_of_run : EveryStep script config (λ s. takes_above_0 s ≡ true)
   above_0_of_run = every_step script config (λ s. takes_above_0 s ≡ true) above_0_of_step
 
+  at_0_of_step : (before : List Entry) (r : Run) → run script config before ≡ Some r → (e : Entry) (p : Process) (t : Thread) → IsTaken script config r.world e p t → times_out_at_0 (step_of script config r p e t) ≡ true
+  at_0_of_step before r is e p t taken = case_at_0 (case_of_step script config r.world p e t (moves_of_run script config before r is e p t taken))
+
+  at_0_of_run : EveryStep script config (λ s. times_out_at_0 s ≡ true)
+  at_0_of_run = every_step script config (λ s. times_out_at_0 s ≡ true) at_0_of_step
+
   -- every run keeps the law of the shared state
   pub shared_law : (entries : List Entry) → SharedLaw script config entries
   shared_law entries = record {
     changes = each_step script config IsLawful changes_of_run entries;
     above_0 = each_step script config (λ s. takes_above_0 s ≡ true) above_0_of_run entries;
+    at_0 = each_step script config (λ s. times_out_at_0 s ≡ true) at_0_of_run entries;
   }

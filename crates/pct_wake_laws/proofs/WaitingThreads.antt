@@ -4,15 +4,19 @@ use Rattle.pct_names.proofs.Names.{◌&&◌, ◌+◌, ◌-◌, ◌<◌, [], ap, 
 use Rattle.pct_names.proofs.Names.{filter, flat_map, flat_map-cons, free_ids, free_places, holds_slot, inl, inr, is_ended_status, is_free}
 use Rattle.pct_names.proofs.Names.{is_none, is_on, is_some, is_waiting_on, key_at, KeyPlace, length, List, list_all, list_any, map}
 use Rattle.pct_names.proofs.Names.{MAX_KEYS, mod_below, nat_eq, new_keys, next_id, next_key, None, not, Option, range_with_len, refl}
-use Rattle.pct_names.proofs.Names.{slot_of, Some, Status, suc, sum_by-cons, sym, Thread, true, Waiter, waiter_by, waiters_among, zero}
-use Rattle.pct_names.proofs.Names.{◌||◌, ℕ, ◌∙◌, ◌∷◌, ◌≡◌, ◌≤◌, ◌⊎◌}
+use Rattle.pct_names.proofs.Names.{slot_of, Some, Status, suc, sum_by-cons, sym, Thread, true, Waiter, waiter_by, waiters_among, zero, ◌||◌}
+use Rattle.pct_names.proofs.Names.{ℕ, ◌∙◌, ◌∷◌, ◌≡◌, ◌≤◌, ◌⊎◌}
 use Rattle.std.proofs.Common.{eqb-true, eq-eqb}
 use Rattle.std.proofs.lemmas.Bool.{true≢false}
 use Rattle.std.proofs.lemmas.List.Sums.{sum_by-append}
 use Rattle.std.specs.List.{sum_by}
 use Rattle.pct_model.specs.declared.state.Status.TheVariants as status
 use Rattle.pct_model.specs.LineParsing.{is_empty}
-use Rattle.pct_laws.specs.StatementLaw.{waits_on, all_slots_held, all_places_taken}
+use Rattle.pct_laws.specs.StatementLaw.{all_slots_held, all_places_taken}
+
+-- the thread waits on condition variable c, and its process inherited it, in the words of the machine
+abbrev pub waits_on : ℕ → Thread → Bool
+waits_on c t = not t.gone && is_waiting_on c t.status
 
 -- ---- sums
 

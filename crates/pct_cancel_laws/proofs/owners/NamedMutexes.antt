@@ -17,4 +17,6 @@ module _ (script : Script) where
   unfolding encode syntax_of
   reacquired_mutex c m (StatementIn frame (statement.CondWait cond mutex)) placed is =
       subst IsMutex (eqb-true mutex m (and_parts (nat_eq cond c) (nat_eq mutex m) is).1) (names_there script placed).1.0
+  reacquired_mutex c m (StatementIn frame (statement.CondTimedWait result cond mutex)) placed is =
+      subst IsMutex (eqb-true mutex m (and_parts (nat_eq cond c) (nat_eq mutex m) is).1) (names_there script placed).1.1.0
   reacquired_mutex c m _ placed is = absurd (false≢true is)

@@ -1,21 +1,23 @@
 -- What each transition does with the owners of mutexes, by the tables: it sets those that its events report, a mutex that it acquires has
 -- no owner before, and one that it releases is owned by its thread.
-use Rattle.pct_names.proofs.Names.{◌++◌, ◌<◌, [], and_from, ap, ap₂, Bool, cond, cond_wait_point, encode, Entry, Environment, eqb-false}
-use Rattle.pct_names.proofs.Names.{Event, event_of, false, Frame, length, List, map, nat_eq, NextStatement, owns, refl, reverse, Script}
-use Rattle.pct_names.proofs.Names.{shared_after, shared_moved, SharedState, slice_index, slice_set, Status, Stmt, subst, sym, syntax_of}
-use Rattle.pct_names.proofs.Names.{Thread, Transition, true, What, ℕ, ◌∙◌, ◌∷◌, ◌≡◌}
+use Rattle.pct_names.proofs.Names.{◌++◌, ◌<◌, [], and_from, ap, ap₂, Bool, cond, cond_timedwait_point, cond_wait_point, encode, Entry}
+use Rattle.pct_names.proofs.Names.{Environment, eqb-false, Event, event_of, false, Frame, length, List, map, nat_eq, NextStatement, owns}
+use Rattle.pct_names.proofs.Names.{refl, reverse, Script, shared_after, shared_moved, SharedState, slice_index, slice_set, Status, Stmt}
+use Rattle.pct_names.proofs.Names.{subst, sym, syntax_of, Thread, Transition, true, What, ℕ, ◌∙◌, ◌∷◌, ◌≡◌}
 use Rattle.std.proofs.Common.{eqb-true}
 use Rattle.std.proofs.lemmas.List.{get_or-set_same, get_or-set_other, length-set}
 use Rattle.pct_model.specs.declared.event.What.TheVariants as what
+use Rattle.pct_model.specs.declared.state.Cause.TheVariants as cause
 use Rattle.pct_laws.specs.Each.{each}
 use Rattle.pct_laws.specs.CondLaw.{owners_allow}
 use Rattle.pct_laws.specs.Kept.{IsSuspendedAt}
 use Rattle.pct_laws.specs.MutexOwners.{owner_after, owner_of}
 use Rattle.pct_transition_cases.proofs.PlacedStatements.{IsPlaced}
-use Rattle.pct_transition_cases.proofs.TransitionCases.{TransitionCase, mutex_locked, mutex_unlocked, wait_begun, wait_ended, ended_in_wait}
-use Rattle.pct_transition_cases.proofs.TransitionCases.{fork_handler_called}
+use Rattle.pct_transition_cases.proofs.TransitionCases.{TransitionCase, mutex_locked, mutex_unlocked, wait_begun, timed_wait_begun}
+use Rattle.pct_transition_cases.proofs.TransitionCases.{wait_ended, timed_wait_ended, wait_timed_out, ended_in_wait, fork_handler_called}
 use Rattle.pct_thread_invariants.proofs.lift.HandlerEvents.{of_each_phase}
 use Rattle.pct_thread_invariants.proofs.thread.NamedWords.{names_there}
+use Rattle.pct_thread_invariants.proofs.thread.ThreadRule.{in_wait}
 use Rattle.pct_thread_invariants.proofs.lift.ReportedBy.{Reading, reported_by, is_reading, after_own, own_after}
 use Rattle.pct_cancel_laws.proofs.owners.NamedMutexes.{IsMutex, reacquired_mutex}
 
@@ -61,7 +63,10 @@ module _ (script : Script) (passes : ℕ) (shared : SharedState) (t : Thread) (e
     case_fits placed at (mutex_locked frame m free) = set_fits m (names_there script placed).0 t.id e.tid is_own
     case_fits placed at (mutex_unlocked frame m is) = set_fits m (names_there script placed).0 0 0 refl
     case_fits placed at (wait_begun frame c m is one unasked) = set_fits m (names_there script placed).1.0 0 0 refl
-    case_fits {next = next} placed at (wait_ended frame _ _ c m why stays free) = set_fits m (reacquired_mutex script c m next placed at) t.id e.tid is_own
+    case_fits placed at (timed_wait_begun frame result c m is one unasked) = set_fits m (names_there script placed).1.1.0 0 0 refl
+    case_fits {next = next} placed at (wait_ended frame _ _ c m why woken free) = set_fits m (reacquired_mutex script c m next placed (in_wait next c m why at)) t.id e.tid is_own
+    case_fits {next = next} placed at (timed_wait_ended frame result _ _ c m why woken free) = set_fits m (reacquired_mutex script c m next placed (in_wait next c m why at)) t.id e.tid is_own
+    case_fits {next = next} placed at (wait_timed_out frame result _ _ c m free) = set_fits m (reacquired_mutex script c m next placed (in_wait next c m cause.TimedOut at)) t.id e.tid is_own
     case_fits placed at (ended_in_wait next c m free) = set_fits m (reacquired_mutex script c m next placed at) t.id e.tid is_own
     case_fits placed at (fork_handler_called next values call is) = of_each_phase (λ (w : What). OwnersFit script shared.owners (λ m. owner_after m e.tid w (reported m))) call.func fits fits fits values.phase
     case_fits placed at _ = fits
@@ -82,7 +87,10 @@ module _ (script : Script) (passes : ℕ) (shared : SharedState) (t : Thread) (e
     case_lawful (mutex_locked frame m free) law = and_from _ _ (owned m 0 [] refl (free refl)) law
     case_lawful (mutex_unlocked frame m is) law = and_from _ _ (own_id m [] refl is) law
     case_lawful (wait_begun frame c m is one unasked) law = and_from _ _ (own_id m (what.Called cond_wait_point ∷ []) refl is) law
-    case_lawful (wait_ended frame _ _ c m why stays free) law = and_from _ _ (owned m 0 [] refl (free refl)) law
+    case_lawful (timed_wait_begun frame result c m is one unasked) law = and_from _ _ (own_id m (what.Called cond_timedwait_point ∷ []) refl is) law
+    case_lawful (wait_timed_out frame result _ _ c m free) law = and_from _ _ (owned m 0 [] refl (free refl)) law
+    case_lawful (timed_wait_ended frame result _ _ c m why woken free) law = and_from _ _ (owned m 0 [] refl (free refl)) law
+    case_lawful (wait_ended frame _ _ c m why woken free) law = and_from _ _ (owned m 0 [] refl (free refl)) law
     case_lawful (ended_in_wait next c m free) law = and_from _ _ (owned m 0 [] refl (free refl)) law
     case_lawful (fork_handler_called next at call is) law = of_each_phase (λ (w : What). each owners_allow (event_of e w ∷ earlier) ≡ true) call.func law law law at.phase
     case_lawful _ law = assumption

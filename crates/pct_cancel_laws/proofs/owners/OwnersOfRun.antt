@@ -45,7 +45,7 @@ module _ (script : Script) (config : Config) where
     o = transition_by script config w p t e.alt
 
     abbrev environment : Environment
-    environment = environment_of config.slots w p t.id
+    environment = environment_of config w p t.id
 
     its_id : t.id ≡ e.tid
     its_id = (mover script config w p e t moves.0).number

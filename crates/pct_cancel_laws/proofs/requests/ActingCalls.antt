@@ -77,7 +77,7 @@ module _ (script : Script) (config : Config) where
   acts_at_call : (before : List Entry) (r : Run) → run script config before ≡ Some r → (e : Entry) (p : Process) (t : Thread) → IsTaken script config r.world e p t → acts_at_calls script (step_of script config r p e t) ≡ true
   acts_at_call before r is e p t taken = implied (is_running t.status) (calls_required_point (next_of script t.frames)) (has_to_act e.pid e.tid r.events) _ (λ running required acts.
       let body : List Stmt = body_at script t.frames in
-      let environment : Environment = environment_of config.slots r.world p t.id in
+      let environment : Environment = environment_of config r.world p t.id in
       let next : NextStatement = next_of script t.frames in
       subst (λ (s : Status). offers (choices_at body p.shared t environment next s) e.alt ≡ true → acts_or_stops (acts_or e.alt s (transition_at config.passes body p.shared t environment e.alt next s)).events ≡ true) (sym (its_status t.status running))
       (at_call config.passes body p.shared t environment e.alt next required (sym (mover_acts script config before r is e p t taken) ∙ acts)) taken.offered)

@@ -51,7 +51,7 @@ module _ (script : Script) (config : Config) where
   -- so it is of the step of an entry that moves a thread
   may_act_of_step : (before : List Entry) (r : Run) → run script config before ≡ Some r → (e : Entry) (p : Process) (t : Thread) → IsTaken script config r.world e p t → acts_where_it_may script (step_of script config r p e t) ≡ true
   may_act_of_step before r is e p t taken =
-      case_acts script config.passes (body_at script t.frames) p.shared (environment_of config.slots r.world p t.id) (step_of script config r p e t) (mover_asynchronous script config before r is e p t taken) refl refl
+      case_acts script config.passes (body_at script t.frames) p.shared (environment_of config r.world p t.id) (step_of script config r p e t) (mover_asynchronous script config before r is e p t taken) refl refl
       (case_of_step script config r.world p e t (moves_of_run script config before r is e p t taken))
 
   -- each step of every run acts where it may

@@ -1,7 +1,8 @@
 -- A thread that is suspended in a cancellation point, and has to act upon a request, has a choice to do so.
-use Rattle.pct_names.proofs.Names.{◌++◌, [], act_if, Alt, ap, body_at, Bool, choices_at, cond, Config, Environment, environment_of, false}
-use Rattle.pct_names.proofs.Names.{false≢true, go_if, hand_on_or_act, is_deliverable, is_ended_status, List, list_any, next_of}
-use Rattle.pct_names.proofs.Names.{NextStatement, refl, Script, SharedState, Status, Stmt, sym, Thread, true, Waiter, ◌∙◌, ◌∷◌, ◌≡◌}
+use Rattle.pct_names.proofs.Names.{◌++◌, [], act_if, Alt, ap, body_at, Bool, choices_at, cond, Config, Environment, environment_of}
+use Rattle.pct_names.proofs.Names.{expire_if, false, false≢true, go_if, hand_on_or_act, is_deliverable, is_ended_status, List, list_any}
+use Rattle.pct_names.proofs.Names.{next_of, NextStatement, refl, Script, SharedState, Status, Stmt, sym, Thread, true, Waiter, ◌∙◌, ◌∷◌}
+use Rattle.pct_names.proofs.Names.{◌≡◌}
 use Rattle.pct_model.specs.declared.schedule.Alt.TheVariants as alt
 use Rattle.pct_model.specs.declared.state.Cause.TheVariants as cause
 use Rattle.pct_model.specs.declared.state.Status.TheVariants as status
@@ -13,6 +14,15 @@ use Rattle.pct_cancel_laws.proofs.requests.ActingThreads.{acts_by_events}
 acts_too : (goes : Bool) (acting : List Alt) → list_any is_to_act acting ≡ true → list_any is_to_act (go_if goes ++ acting) ≡ true
 acts_too true acting acts = acts
 acts_too false acting acts = acts
+
+-- or where its time may expire
+acts_in_time : (expires : Bool) (acting : List Alt) → list_any is_to_act acting ≡ true → list_any is_to_act (expire_if expires ++ acting) ≡ true
+acts_in_time true acting acts = acts
+acts_in_time false acting acts = acts
+
+acts_in_time_too : (goes expires : Bool) (acting : List Alt) → list_any is_to_act acting ≡ true → list_any is_to_act (go_if goes ++ expire_if expires ++ acting) ≡ true
+acts_in_time_too true expires acting acts = acts_in_time expires acting acts
+acts_in_time_too false expires acting acts = acts_in_time expires acting acts
 
 -- a thread with a request may act upon it
 requested : (asked : Bool) → asked ≡ true → list_any is_to_act (act_if asked) ≡ true
@@ -30,12 +40,14 @@ module _ (body : List Stmt) (shared : SharedState) (t : Thread) (environment : E
   unfolding choices_at
   awake next (status.AtPoint index) suspended = acts_too _ (act_if (is_deliverable t.state t.pending)) (requested (is_deliverable t.state t.pending) asked)
   awake next (status.Joining id) suspended = acts_too _ (act_if (is_deliverable t.state t.pending)) (requested (is_deliverable t.state t.pending) asked)
-  awake next (status.InSem sem) suspended = acts_too _ (act_if (is_deliverable t.state t.pending)) (requested (is_deliverable t.state t.pending) asked)
+  awake next (status.InSem sem) suspended = acts_in_time_too _ _ (act_if (is_deliverable t.state t.pending)) (requested (is_deliverable t.state t.pending) asked)
   awake next (status.InWaitPid pid) suspended = acts_too _ (act_if (is_deliverable t.state t.pending)) (requested (is_deliverable t.state t.pending) asked)
-  awake next (status.Waiting c m) suspended = requested (is_deliverable t.state t.pending) asked
+  awake next (status.Waiting c m) suspended = acts_in_time _ (act_if (is_deliverable t.state t.pending)) (requested (is_deliverable t.state t.pending) asked)
   awake next (status.Reacquire c m cause.Signalled) suspended =
       acts_too _ (cond (is_deliverable t.state t.pending) (hand_on_or_act (environment.waiters c)) []) (ap (λ (b : Bool). list_any is_to_act (cond b (hand_on_or_act (environment.waiters c)) [])) asked ∙ hands_on (environment.waiters c))
   awake next (status.Reacquire c m cause.Broadcast) suspended =
+      acts_too _ (cond (is_deliverable t.state t.pending) (alt.Act 0 ∷ []) []) (ap (λ (b : Bool). list_any is_to_act (cond b (alt.Act 0 ∷ []) [])) asked)
+  awake next (status.Reacquire c m cause.TimedOut) suspended =
       acts_too _ (cond (is_deliverable t.state t.pending) (alt.Act 0 ∷ []) []) (ap (λ (b : Bool). list_any is_to_act (cond b (alt.Act 0 ∷ []) [])) asked)
   awake next _ suspended = absurd (false≢true suspended)
 
@@ -47,5 +59,5 @@ suspended_alive _ suspended = refl
 -- after every run, a thread that is suspended in a cancellation point, and has to act upon a request, has a choice to do so
 pub awakened_of_run : (script : Script) (config : Config) → AfterEveryRun script config (λ r. Awakened script config r.world r.events)
 awakened_of_run script config entries r is pid p made tid t found here suspended has =
-    awake (body_at script t.frames) p.shared t (environment_of config.slots r.world p t.id)
+    awake (body_at script t.frames) p.shared t (environment_of config r.world p t.id)
     (sym (acts_by_events script config entries r is pid tid p t made found here (suspended_alive t.status suspended)) ∙ has) (next_of script t.frames) t.status suspended

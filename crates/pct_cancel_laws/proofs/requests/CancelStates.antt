@@ -129,7 +129,7 @@ module _ (script : Script) (config : Config) where
         named = λ a t k is. (rule.named a t k.summary is.0, named_as_set a t k is.1);
         kept = λ w p t k choice known offered is.
             let o : Transition = transition_by script config w p t choice in
-            let environment : Environment = environment_of config.slots w p t.id in (
+            let environment : Environment = environment_of config w p t.id in (
               subst (FitsAny script config.passes (moved o t)) (summary_after (reverse o.events) k) (rule.kept w p t k.summary choice known offered is.0),
               case_kept config.passes (body_at script t.frames) p.shared t environment true k (case_of config.passes (body_at script t.frames) p.shared t environment true choice (next_of script t.frames) t.status (λ known. offered)) is.1,
             );

@@ -1,10 +1,10 @@
 -- The events of every run keep the law of cancellation: a thread is canceled only by a request that came, with its cancelability enabled,
 -- a thread that has to act upon a request calls no cancellation point, a thread returns from one after its call, and one that has begun to
 -- end does not enable its cancelability.
-use Rattle.pct_names.proofs.Names.{◌&&◌, ◌++◌, and_from, and_parts, ap, Bool, Cause, cond, cond_wait_point, Config, Disable, Enable, Entry}
-use Rattle.pct_names.proofs.Names.{environment_of, Event, event_of, false, false≢true, Frame, has_begun_to_end, has_left_wait}
-use Rattle.pct_names.proofs.Names.{is_deliverable, is_required, List, made_thread, map, moved, nat_eq, next_of, NextStatement, not, Option}
-use Rattle.pct_names.proofs.Names.{option_map_or, or_left, or_right, own_after, point_kind, Process, refl, reverse, Run, run, Script}
+use Rattle.pct_names.proofs.Names.{◌&&◌, ◌++◌, and_from, and_parts, ap, Bool, Cause, cond, Config, Disable, Enable, Entry, environment_of}
+use Rattle.pct_names.proofs.Names.{Event, event_of, false, false≢true, Frame, has_begun_to_end, has_left_wait, is_deliverable, is_required}
+use Rattle.pct_names.proofs.Names.{is_timed_wait, List, made_thread, map, moved, nat_eq, next_of, NextStatement, not, Option, option_map_or}
+use Rattle.pct_names.proofs.Names.{or_left, or_right, own_after, point_kind, Process, refl, reverse, Run, run, Script, sem_timedwait_point}
 use Rattle.pct_names.proofs.Names.{sem_wait_point, Some, statement_at, StatementIn, Status, Stmt, subst, sym, testcancel_point, Thread}
 use Rattle.pct_names.proofs.Names.{thread_at, Transition, transition_by, true, waitpid_point, What, ◌||◌, ℕ, ◌∙◌, ◌∷◌, ◌≡◌}
 use Rattle.std.proofs.Common.{eq-eqb, eqb-true}
@@ -15,17 +15,20 @@ use Rattle.pct_model.specs.declared.state.Status.TheVariants as status
 use Rattle.pct_model.specs.declared.statement.Stmt.TheVariants as statement
 use Rattle.pct_laws.specs.CancelEvents.{is_requested, is_enabled_last, has_to_act}
 use Rattle.pct_laws.specs.Each.{each}
-use Rattle.pct_laws.specs.NewestEvents.{newest_is, reports_call}
-use Rattle.pct_laws.specs.RequestsLaw.{is_in_wait, is_to_return, is_to_end, has_own_return, may_return, allows}
+use Rattle.pct_laws.specs.NewestEvents.{newest_event, newest_is, reports_call}
+use Rattle.pct_laws.specs.RequestsLaw.{is_in_wait, is_in_timed_wait, is_to_return, is_to_time_out, is_to_end, has_own_return, may_return}
+use Rattle.pct_laws.specs.RequestsLaw.{is_sem_wait_point, is_cond_wait_point, calls_sem_wait, allows}
 use Rattle.pct_laws.specs.Kept.{is_call_of, is_leaving, WaitKept}
 use Rattle.pct_laws.specs.KnownThreads.{is_own}
 use Rattle.pct_laws.specs.ThreadSummary.{ThreadSummary, summary_of}
-use Rattle.pct_laws.specs.WaitStages.{WaitStage, InWait, ToReturn, Leaving, LeavingSignal, stage_after, wait_stage}
+use Rattle.pct_laws.specs.WaitStages.{WaitStage, Leaving, Left, stage_after, wait_stage}
 use Rattle.pct_transition_cases.proofs.PlacedStatements.{IsPlaced, is_placed, statement_placed}
-use Rattle.pct_transition_cases.proofs.TransitionCases.{TransitionCase, join_begun, state_set, cancel_tested, point_begun, point_done}
-use Rattle.pct_transition_cases.proofs.TransitionCases.{point_passed, canceled, canceled_at_point, canceled_in_join, canceled_in_sem_wait}
-use Rattle.pct_transition_cases.proofs.TransitionCases.{canceled_in_waitpid, wait_begun, wait_ended, canceled_in_wait, canceled_after_wait}
-use Rattle.pct_transition_cases.proofs.TransitionCases.{signal_handed_on, ended_in_wait, sem_wait_begun, sem_taken, fork_handler_called}
+use Rattle.pct_transition_cases.proofs.TransitionCases.{TransitionCase, is_wake_up, join_begun, state_set, cancel_tested, point_begun}
+use Rattle.pct_transition_cases.proofs.TransitionCases.{point_done, point_passed, canceled, canceled_at_point, canceled_in_join}
+use Rattle.pct_transition_cases.proofs.TransitionCases.{canceled_in_sem_wait, canceled_in_waitpid, wait_begun, timed_wait_begun, wait_ended}
+use Rattle.pct_transition_cases.proofs.TransitionCases.{timed_wait_ended, wait_expired, wait_timed_out, canceled_in_wait}
+use Rattle.pct_transition_cases.proofs.TransitionCases.{canceled_after_wait, signal_handed_on, ended_in_wait, sem_wait_begun, sem_taken}
+use Rattle.pct_transition_cases.proofs.TransitionCases.{timed_sem_wait_begun, timed_sem_taken, sem_wait_timed_out, fork_handler_called}
 use Rattle.pct_transition_cases.proofs.TransitionCases.{waitpid_begun, child_reaped, no_child_found, child_lost}
 use Rattle.pct_thread_invariants.proofs.ThreadsOfRun.{thread_rule, processes_fit, threads_fit, threads_kept}
 use Rattle.pct_thread_invariants.proofs.lift.EveryProcess.{moves_of_run}
@@ -39,7 +42,8 @@ use Rattle.pct_cancel_laws.proofs.requests.LeftWaits.{left_waits_of_run}
 use Rattle.pct_thread_invariants.proofs.thread.SuspendedCalls.{call_event, newest_call_of_run}
 use Rattle.pct_thread_invariants.proofs.lift.MovedThreads.{case_of_step}
 use Rattle.pct_thread_invariants.proofs.thread.ThreadRule.{summary, summary_reading, FitsAny}
-use Rattle.pct_cancel_laws.proofs.waits.GenericPoints.{is_other_point, is_no_test, has_no_own_return}
+use Rattle.pct_cancel_laws.proofs.waits.GenericPoints.{is_no_cond_wait, is_no_test, has_no_own_return}
+use Rattle.pct_cancel_laws.proofs.waits.WaitSteps.{blocked, same_wait}
 use Rattle.pct_cancel_laws.proofs.waits.WaitsOfRun.{waits_kept_of_run}
 
 -- ---- a mutex is acquired
@@ -65,21 +69,22 @@ is_its_own e w = and_from (nat_eq e.pid e.pid) (nat_eq e.tid e.tid) (eq-eqb e.pi
 next_stage : (e : Entry) (w : What) (earlier : List Event) → wait_stage e.pid e.tid (event_of e w ∷ earlier) ≡ stage_after w (wait_stage e.pid e.tid earlier)
 next_stage e w earlier = ap (λ (own : Bool). cond own (stage_after w (wait_stage e.pid e.tid earlier)) (wait_stage e.pid e.tid earlier)) (is_its_own e w)
 
--- the stage of a thread that was unblocked by a signal or a broadcast
-unblocked_stage : (c m : ℕ) (why : Cause) (stage : WaitStage) → has_left_wait (status.Reacquire c m why) ≡ false → WaitKept (status.Reacquire c m why) stage → stage ≡ InWait m
-unblocked_stage c m cause.Signalled stage stays is = is
-unblocked_stage c m cause.Broadcast stage stays is = is
-unblocked_stage c m cause.Canceled stage leaves is = absurd (false≢true (sym leaves))
+-- a thread that was unblocked, and has not acted upon a request in its wait, is in it
+still_in_wait : (next : NextStatement) (c m : ℕ) (why : Cause) (stage : WaitStage) → has_left_wait (status.Reacquire c m why) ≡ false → WaitKept next (status.Reacquire c m why) stage → is_in_wait stage ≡ true
+still_in_wait next c m cause.Signalled stage stays is = ap is_in_wait is
+still_in_wait next c m cause.Broadcast stage stays is = ap is_in_wait is
+still_in_wait next c m cause.TimedOut stage stays is = ap is_in_wait is
+still_in_wait next c m cause.Canceled stage leaves is = absurd (false≢true (sym leaves))
 
 -- a thread that leaves its wait, and owns its mutex again, begins to end next
-owned_again : (c m : ℕ) (stage : WaitStage) → is_leaving c m stage ≡ true → is_to_end c m (stage_after (what.Acquired m) stage) ≡ true
-owned_again c m (Leaving cond mutex) is = is
-owned_again c m (LeavingSignal cond mutex) is = is
-owned_again c m _ is = absurd (false≢true is)
+owned_again : (timed : Bool) (c m : ℕ) (stage : WaitStage) → is_leaving timed c m stage ≡ true → is_to_end c m (stage_after (what.Acquired m) stage) ≡ true
+owned_again timed c m (Leaving has_time cond mutex) is = let parts = same_wait has_time timed cond c mutex m is in and_from (nat_eq cond c) (nat_eq mutex m) parts.0 parts.1
+owned_again timed c m (Left has_time cond mutex) is = let parts = same_wait has_time timed cond c mutex m is in and_from (nat_eq cond c) (nat_eq mutex m) parts.0 parts.1
+owned_again timed c m _ is = absurd (false≢true is)
 
 -- ---- the return from a cancellation point
 
--- a generic point, by whether it returns by an event of its own, is pthread_testcancel or pthread_cond_wait, or shall be a cancellation point
+-- a generic point, by whether it returns by an event of its own, is pthread_testcancel or a condition wait, or shall be a cancellation point
 return_by : (own tests waits required acts returns called : Bool) → own ≡ false → tests ≡ false → waits ≡ false → (required ≡ true → called ≡ true) → cond own false (cond tests (not acts) (cond waits returns (not required || called))) ≡ true
 return_by false false false true acts returns called no_own no_test no_wait calls = calls refl
 return_by false false false false acts returns called no_own no_test no_wait calls = refl
@@ -123,17 +128,31 @@ module _ (script : Script) (config : Config) (before : List Entry) (r : Run) (is
   calls unasked = acts ∙ unasked refl
 
   -- the stage of its wait is as its status is
-  in_wait : {s : Status} → t.status ≡ s → WaitKept s (wait_stage e.pid e.tid r.events)
-  in_wait status_is = subst (λ (s : Status). WaitKept s (wait_stage e.pid e.tid r.events)) status_is (waits_kept_of_run script config before r is e.pid e.tid t it_made here)
+  in_wait : {s : Status} → t.status ≡ s → WaitKept (next_of script t.frames) s (wait_stage e.pid e.tid r.events)
+  in_wait status_is = subst (λ (s : Status). WaitKept (next_of script t.frames) s (wait_stage e.pid e.tid r.events)) status_is (waits_kept_of_run script config before r is e.pid e.tid t it_made here)
 
   -- it left its wait by a request, and owns its mutex again
   ends_in_wait : (m : ℕ) → has_left_wait t.status ≡ true → has_to_act e.pid e.tid (event_of e (what.Acquired m) ∷ r.events) ≡ true
   ends_in_wait m left = acts_after e m r.events ∙ acts ∙ left_waits_of_run script config before r is e.pid e.tid t it_made here left
 
+  -- it owns its mutex again after a signal or a broadcast, and returns next
+  returns_next : (c m : ℕ) (why : Cause) → is_wake_up why ≡ true → t.status ≡ status.Reacquire c m why → is_to_return (wait_stage e.pid e.tid (event_of e (what.Acquired m) ∷ r.events)) ≡ true
+  returns_next c m why woken status_is =
+      ap is_to_return (next_stage e (what.Acquired m) r.events ∙ ap (stage_after (what.Acquired m)) (blocked (next_of script t.frames) c m why (wait_stage e.pid e.tid r.events) woken (in_wait status_is)))
+
   -- the newest event of a thread that is suspended in a call
-  called : {s : Status} (index : ℕ) → t.status ≡ s → call_event s ≡ Some (what.Called index) → newest_is (reports_call index) e.pid e.tid r.events ≡ true
-  called index status_is in_call =
-      ap (λ (o : Option What). option_map_or (reports_call index) o false) (newest_call_of_run script config before r is e.pid e.tid t it_made here (what.Called index) (ap call_event status_is ∙ in_call)) ∙ eq-eqb index index refl
+  newest_call : {s : Status} (index : ℕ) → t.status ≡ s → call_event (next_of script t.frames) s ≡ Some (what.Called index) → newest_event e.pid e.tid r.events ≡ Some (what.Called index)
+  newest_call index status_is in_call = newest_call_of_run script config before r is e.pid e.tid t it_made here (what.Called index) (ap (call_event (next_of script t.frames)) status_is ∙ in_call)
+
+  called : {s : Status} (index : ℕ) → t.status ≡ s → call_event (next_of script t.frames) s ≡ Some (what.Called index) → newest_is (reports_call index) e.pid e.tid r.events ≡ true
+  called index status_is in_call = ap (λ (o : Option What). option_map_or (reports_call index) o false) (newest_call index status_is in_call) ∙ eq-eqb index index refl
+
+  -- one that waits for a semaphore, by its next statement
+  in_sem_wait : (sem : ℕ) {next : NextStatement} → next_of script t.frames ≡ next → call_event (next_of script t.frames) (status.InSem sem) ≡ call_event next (status.InSem sem)
+  in_sem_wait sem next_is = ap (λ (next : NextStatement). call_event next (status.InSem sem)) next_is
+
+  called_sem_wait : (index : ℕ) → is_sem_wait_point index ≡ true → {sem : ℕ} → t.status ≡ status.InSem sem → call_event (next_of script t.frames) (status.InSem sem) ≡ Some (what.Called index) → newest_is calls_sem_wait e.pid e.tid r.events ≡ true
+  called_sem_wait index is_one status_is in_call = ap (λ (o : Option What). option_map_or calls_sem_wait o false) (newest_call index status_is in_call) ∙ is_one
 
   -- the point at which it is suspended is that of its statement
   same_point : (index i : ℕ) (frame : Frame) → next_of script t.frames ≡ StatementIn frame (statement.PointCall i) → t.status ≡ status.AtPoint index → i ≡ index
@@ -143,13 +162,13 @@ module _ (script : Script) (config : Config) (before : List Entry) (r : Run) (is
 
   -- a statement of the script calls a generic point, from which the thread may return
   returns : (index : ℕ) (frame : Frame) → statement_at script frame ≡ Some (statement.PointCall index) → (is_required (point_kind index) ≡ true → newest_is (reports_call index) e.pid e.tid r.events ≡ true) → may_return index e.pid e.tid r.events ≡ true
-  returns index frame at = return_by (has_own_return index) (nat_eq index testcancel_point) (nat_eq index cond_wait_point) (is_required (point_kind index)) (has_to_act e.pid e.tid r.events) (is_to_return (wait_stage e.pid e.tid r.events)) (newest_is (reports_call index) e.pid e.tid r.events)
-      (has_no_own_return script frame index at) (is_no_test script frame index at) (is_other_point script frame index at)
+  returns index frame at = return_by (has_own_return index) (nat_eq index testcancel_point) (is_cond_wait_point index) (is_required (point_kind index)) (has_to_act e.pid e.tid r.events) (is_to_return (wait_stage e.pid e.tid r.events)) (newest_is (reports_call index) e.pid e.tid r.events)
+      (has_no_own_return script frame index at) (is_no_test script frame index at) (is_no_cond_wait script frame index at)
 
   -- the events of a transition keep the law
   case_lawful : {body : List Stmt} {next : NextStatement} {s : Status} {o : Transition} → IsPlaced script t.frames body next → next_of script t.frames ≡ next → t.status ≡ s
       → FitsAny script config.passes (moved o t) (after_all summary (reverse o.events) (summary_of e.pid e.tid r.events))
-      → TransitionCase config.passes body p.shared t (environment_of config.slots r.world p t.id) true next s o → each allows (map (event_of e) (reverse o.events) ++ r.events) ≡ true
+      → TransitionCase config.passes body p.shared t (environment_of config r.world p t.id) true next s o → each allows (map (event_of e) (reverse o.events) ++ r.events) ≡ true
   unfolding thread_at own_after
   case_lawful place next_is status_is fits (canceled next asked where_it_may) = and_from _ _ (cancels asked) law
   case_lawful place next_is status_is fits (canceled_at_point next index asked) = and_from _ _ (cancels asked) law
@@ -157,13 +176,15 @@ module _ (script : Script) (config : Config) (before : List Entry) (r : Run) (is
   case_lawful place next_is status_is fits (canceled_in_sem_wait next sem asked) = and_from _ _ (cancels asked) law
   case_lawful place next_is status_is fits (canceled_in_waitpid next pid asked) = and_from _ _ (cancels asked) law
   case_lawful place next_is status_is fits (canceled_in_wait next c m asked) = and_from _ _ (and_from _ _ (cancels asked) (ap is_in_wait (in_wait status_is))) law
-  case_lawful place next_is status_is fits (canceled_after_wait next c m why stays asked) = and_from _ _ (and_from _ _ (cancels asked) (ap is_in_wait (unblocked_stage c m why (wait_stage e.pid e.tid r.events) stays (in_wait status_is)))) law
+  case_lawful place next_is status_is fits (canceled_after_wait next c m why stays asked) = and_from _ _ (and_from _ _ (cancels asked) (still_in_wait (next_of script t.frames) c m why (wait_stage e.pid e.tid r.events) stays (in_wait status_is))) law
   case_lawful place next_is status_is fits (signal_handed_on next c m u asked among) = and_from _ _ (and_from _ _ (cancels asked) (ap is_in_wait (in_wait status_is))) law
   case_lawful place next_is status_is fits (ended_in_wait next c m free) =
-      and_from _ _ (and_from _ _ (ends_in_wait m (ap has_left_wait status_is)) (ap (is_to_end c m) (next_stage e (what.Acquired m) r.events) ∙ owned_again c m (wait_stage e.pid e.tid r.events) (in_wait status_is))) law
+      and_from _ _ (and_from _ _ (ends_in_wait m (ap has_left_wait status_is)) (ap (is_to_end c m) (next_stage e (what.Acquired m) r.events) ∙ owned_again (is_timed_wait (next_of script t.frames)) c m (wait_stage e.pid e.tid r.events) (in_wait status_is))) law
   case_lawful place next_is status_is fits (join_begun frame id d target is other joinable alone unasked) = and_from _ _ (ap not (calls unasked)) law
   case_lawful place next_is status_is fits (point_begun frame index required unasked) = and_from _ _ (ap not (calls unasked)) law
   case_lawful place next_is status_is fits (wait_begun frame c m owner same unasked) = and_from _ _ (ap not (calls unasked)) law
+  case_lawful place next_is status_is fits (timed_wait_begun frame result c m owner same unasked) = and_from _ _ (ap not (calls unasked)) law
+  case_lawful place next_is status_is fits (timed_sem_wait_begun frame result sem unasked) = and_from _ _ (ap not (calls unasked)) law
   case_lawful place next_is status_is fits (sem_wait_begun frame sem unasked) = and_from _ _ (ap not (calls unasked)) law
   case_lawful place next_is status_is fits (waitpid_begun frame result d pid unasked) = and_from _ _ (ap not (calls unasked)) law
   case_lawful place next_is status_is fits (cancel_tested frame unasked) =
@@ -171,14 +192,17 @@ module _ (script : Script) (config : Config) (before : List Entry) (r : Run) (is
   case_lawful place next_is status_is fits (no_child_found frame result d operand unasked) = and_from _ _ (or_left (not (has_to_act e.pid e.tid r.events)) _ (ap not (calls unasked))) law
   case_lawful place next_is status_is fits (child_lost frame result d operand pid) = and_from _ _ (or_right (not (has_to_act e.pid e.tid r.events)) _ (called waitpid_point status_is refl)) law
   case_lawful place next_is status_is fits (child_reaped frame result d operand pid n child found ended) = and_from _ _ (called waitpid_point status_is refl) law
-  case_lawful place next_is status_is fits (sem_taken frame s sem above) = and_from _ _ (called sem_wait_point status_is refl) law
+  case_lawful place next_is status_is fits (sem_taken frame s sem above) = and_from _ _ (called_sem_wait sem_wait_point refl status_is (in_sem_wait sem next_is)) law
+  case_lawful place next_is status_is fits (timed_sem_taken frame result s sem above) = and_from _ _ (called_sem_wait sem_timedwait_point refl status_is (in_sem_wait sem next_is)) law
+  case_lawful place next_is status_is fits (sem_wait_timed_out frame result s sem none) = and_from _ _ (called sem_timedwait_point status_is (in_sem_wait sem next_is)) law
   case_lawful place next_is status_is fits (point_done frame index optional) = and_from _ _ (returns index frame (statement_placed place) (λ required. absurd (true≢false (sym required ∙ optional)))) law
   case_lawful place next_is status_is fits (point_passed frame index i) =
       and_from _ _ (returns index frame (statement_placed place ∙ ap (λ (n : ℕ). Some (statement.PointCall n)) (same_point index i frame next_is status_is)) (λ required. called index status_is refl)) law
-  case_lawful place next_is status_is fits (wait_ended frame cond mutex c m why stays free) =
-      let owned : wait_stage e.pid e.tid (event_of e (what.Acquired m) ∷ r.events) ≡ ToReturn =
-      next_stage e (what.Acquired m) r.events ∙ ap (stage_after (what.Acquired m)) (unblocked_stage c m why (wait_stage e.pid e.tid r.events) stays (in_wait status_is)) in
-      and_from _ _ (ap is_to_return owned) law
+  case_lawful place next_is status_is fits (wait_ended frame cond mutex c m why woken free) = and_from _ _ (returns_next c m why woken status_is) law
+  case_lawful place next_is status_is fits (timed_wait_ended frame result cond mutex c m why woken free) = and_from _ _ (returns_next c m why woken status_is) law
+  case_lawful place next_is status_is fits (wait_expired next c m timed) = and_from _ _ (ap is_in_timed_wait (in_wait status_is) ∙ ap is_timed_wait next_is ∙ timed refl) law
+  case_lawful place next_is status_is fits (wait_timed_out frame result cond mutex c m free) =
+      and_from _ _ (ap is_to_time_out (next_stage e (what.Acquired m) r.events ∙ ap (stage_after (what.Acquired m)) (in_wait status_is))) law
   case_lawful place next_is status_is fits (state_set frame true old allowed) =
       let reported : ThreadSummary = summary_of e.pid e.tid r.events in
       and_from _ _ (unbegun (has_begun_to_end reported.reason) reported.exiting (λ begun. fits.agrees.disabled (ap (λ why. has_begun_to_end why || reported.exiting) (sym fits.agrees.reason) ∙ begun))) law

@@ -34,6 +34,7 @@ either false changed t first second = second
 not_left : (why : Cause) → has_left_wait (status.Reacquire 0 0 why) ≡ false → (s : Status) → has_left_wait (unblocked why s) ≡ true → has_left_wait s ≡ true
 not_left cause.Signalled stays (status.Waiting c m) left = absurd (false≢true left)
 not_left cause.Broadcast stays (status.Waiting c m) left = absurd (false≢true left)
+not_left cause.TimedOut stays (status.Waiting c m) left = absurd (false≢true left)
 not_left cause.Canceled leaves s left = absurd (false≢true (sym leaves))
 not_left why stays s left = left
 
@@ -73,7 +74,7 @@ module _ (script : Script) (config : Config) where
     created = λ w p t k choice new known offered has makes left. absurd (false≢true left);
     named = λ a t k has. named_has a t has;
     kept = λ w p t k choice known offered has.
-        let environment : Environment = environment_of config.slots w p t.id in
+        let environment : Environment = environment_of config w p t.id in
         case_has config.passes (body_at script t.frames) p.shared t environment (case_of config.passes (body_at script t.frames) p.shared t environment true choice (next_of script t.frames) t.status (λ known. offered)) has;
     replica = λ w p t k at known forks has left. absurd (false≢true (sym (ap (λ (s : Status). has_left_wait (in_child s)) forks) ∙ left));
   }

@@ -50,9 +50,9 @@ record SendsOne (threads : List Thread) (o : Transition) : Type 0 where
   is_target : with_id id threads ≡ Some target
   is : requests next id ≡ o
 
-module _ (slots : ℕ) (w : World) (p : Process) (passes : ℕ) (body : List Stmt) (shared : SharedState) (t : Thread) where
+module _ (config : Config) (w : World) (p : Process) (passes : ℕ) (body : List Stmt) (shared : SharedState) (t : Thread) where
   -- each case sends one request, or none
-  case_sends : {next : NextStatement} {s : Status} {o : Transition} → TransitionCase passes body shared t (environment_of slots w p t.id) false next s o → SendsNone o ⊎ SendsOne p.threads o
+  case_sends : {next : NextStatement} {s : Status} {o : Transition} → TransitionCase passes body shared t (environment_of config w p t.id) false next s o → SendsNone o ⊎ SendsOne p.threads o
   unfolding environment_of requests
   case_sends (request_sent frame id target is) = inr (record { next = suc frame.pc; id = value_of shared.globals frame id; target = target; is_target = is; is = refl })
   case_sends (fork_handler_called next at call is) = inl (record { named = refl; events = λ id. of_each_phase (λ (w : What). list_any (requests_id id) (w ∷ []) ≡ false) call.func refl refl refl at.phase })
@@ -61,8 +61,8 @@ module _ (slots : ℕ) (w : World) (p : Process) (passes : ℕ) (body : List Stm
 -- each transition sends one request, or none
 sends : (script : Script) (config : Config) (w : World) (p : Process) (t : Thread) (choice : Alt) → SendsNone (transition_by script config w p t choice) ⊎ SendsOne p.threads (transition_by script config w p t choice)
 sends script config w p t choice =
-    case_sends config.slots w p config.passes (body_at script t.frames) p.shared t
-    (case_of config.passes (body_at script t.frames) p.shared t (environment_of config.slots w p t.id) false choice (next_of script t.frames) t.status (λ known. absurd (false≢true known)))
+    case_sends config w p config.passes (body_at script t.frames) p.shared t
+    (case_of config.passes (body_at script t.frames) p.shared t (environment_of config w p t.id) false choice (next_of script t.frames) t.status (λ known. absurd (false≢true known)))
 
 -- ---- a thread
 

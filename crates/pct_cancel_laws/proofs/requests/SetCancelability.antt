@@ -38,7 +38,7 @@ module _ (script : Script) (config : Config) where
       let sets : cancelability (thread_moved e.tid o t) ≡ after_events o.events (cancelability t) =
       named_keeps cancelability (λ t j p d k s same. refl) o.named (cond (has_valid_id e.tid t) (moved o t) t)
       ∙ ap (λ (b : Bool). cancelability (cond b (moved o t) t)) live
-      ∙ case_sets config.passes (body_at script t.frames) p.shared t (environment_of config.slots r.world p t.id) (case_of_step script config r.world p e t moves) in
+      ∙ case_sets config.passes (body_at script t.frames) p.shared t (environment_of config r.world p t.id) (case_of_step script config r.world p e t moves) in
       record { state = ap (λ (c : State × Mode). c.0) sets; mode = ap (λ (c : State × Mode). c.1) sets }
 
   -- each step of every run sets the cancelability of its thread as its events say

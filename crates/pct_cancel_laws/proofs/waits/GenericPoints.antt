@@ -1,11 +1,12 @@
--- A statement that calls a generic cancellation point does not call pthread_cond_wait, pthread_testcancel, pthread_join, sem_wait or
--- waitpid, which have statements of their own.
-use Rattle.pct_names.proofs.Names.{ap, Bool, cond_wait_point, encode, false, Frame, has_first_word, has_line, join_point, List, nat_eq}
-use Rattle.pct_names.proofs.Names.{point_name, point_of, point_statement, points, refl, Script, sem_wait_point, Some, statement_at, sym}
-use Rattle.pct_names.proofs.Names.{testcancel_point, true, waitpid_point, ◌||◌, ℕ, ◌∙◌, ◌≡◌}
+-- A statement that calls a generic cancellation point does not call pthread_cond_wait, pthread_cond_timedwait, pthread_testcancel,
+-- pthread_join, sem_wait, sem_timedwait or waitpid, which have statements of their own.
+use Rattle.pct_names.proofs.Names.{ap, Bool, cond_timedwait_point, cond_wait_point, encode, false, Frame, has_first_word, has_line}
+use Rattle.pct_names.proofs.Names.{join_point, List, nat_eq, point_name, point_of, point_statement, points, refl, Script}
+use Rattle.pct_names.proofs.Names.{sem_timedwait_point, sem_wait_point, Some, statement_at, sym, testcancel_point, true, waitpid_point}
+use Rattle.pct_names.proofs.Names.{◌||◌, ℕ, ◌∙◌, ◌≡◌}
 use Rattle.std.proofs.Common.{eqb-true}
 use Rattle.pct_model.specs.declared.statement.Stmt.TheVariants as statement
-use Rattle.pct_laws.specs.RequestsLaw.{has_own_return}
+use Rattle.pct_laws.specs.RequestsLaw.{has_own_return, is_sem_wait_point, is_cond_wait_point}
 use Rattle.pct_thread_invariants.proofs.thread.NamedFunctions.{contents, line_of}
 
 module _ (script : Script) where
@@ -21,16 +22,20 @@ module _ (script : Script) where
       let line = line_of script frame (statement.PointCall point) (at ∙ ap (λ (i : ℕ). Some (statement.PointCall i)) it) in
       sym (line.1) ∙ never line.0
 
-  -- pthread_cond_wait and pthread_testcancel are such points
+  -- pthread_cond_wait, pthread_cond_timedwait and pthread_testcancel are such points
   wait_never : NeverSpelled cond_wait_point
   unfolding has_line has_first_word encode point_statement points point_of point_name
   wait_never locals = refl
+
+  timed_wait_never : NeverSpelled cond_timedwait_point
+  unfolding has_line has_first_word encode point_statement points point_of point_name
+  timed_wait_never locals = refl
 
   test_never : NeverSpelled testcancel_point
   unfolding has_line has_first_word encode point_statement points point_of point_name
   test_never locals = refl
 
-  -- so are pthread_join, sem_wait and waitpid
+  -- so are pthread_join, sem_wait, sem_timedwait and waitpid
   join_never : NeverSpelled join_point
   unfolding has_line has_first_word encode point_statement points point_of point_name
   join_never locals = refl
@@ -38,6 +43,10 @@ module _ (script : Script) where
   sem_wait_never : NeverSpelled sem_wait_point
   unfolding has_line has_first_word encode point_statement points point_of point_name
   sem_wait_never locals = refl
+
+  timed_sem_wait_never : NeverSpelled sem_timedwait_point
+  unfolding has_line has_first_word encode point_statement points point_of point_name
+  timed_sem_wait_never locals = refl
 
   waitpid_never : NeverSpelled waitpid_point
   unfolding has_line has_first_word encode point_statement points point_of point_name
@@ -47,12 +56,20 @@ module _ (script : Script) where
   pub is_other_point : (frame : Frame) (index : ℕ) → statement_at script frame ≡ Some (statement.PointCall index) → nat_eq index cond_wait_point ≡ false
   is_other_point frame index at = by_index cond_wait_point wait_never frame index at (nat_eq index cond_wait_point) refl
 
+  pub is_no_timed_wait : (frame : Frame) (index : ℕ) → statement_at script frame ≡ Some (statement.PointCall index) → nat_eq index cond_timedwait_point ≡ false
+  is_no_timed_wait frame index at = by_index cond_timedwait_point timed_wait_never frame index at (nat_eq index cond_timedwait_point) refl
+
+  -- it is no condition wait
+  pub is_no_cond_wait : (frame : Frame) (index : ℕ) → statement_at script frame ≡ Some (statement.PointCall index) → is_cond_wait_point index ≡ false
+  is_no_cond_wait frame index at = ap (λ (b : Bool). b || nat_eq index cond_timedwait_point) (is_other_point frame index at) ∙ is_no_timed_wait frame index at
+
   pub is_no_test : (frame : Frame) (index : ℕ) → statement_at script frame ≡ Some (statement.PointCall index) → nat_eq index testcancel_point ≡ false
   is_no_test frame index at = by_index testcancel_point test_never frame index at (nat_eq index testcancel_point) refl
 
   -- such a point returns by no event of its own
   pub has_no_own_return : (frame : Frame) (index : ℕ) → statement_at script frame ≡ Some (statement.PointCall index) → has_own_return index ≡ false
   has_no_own_return frame index at =
-      ap (λ (b : Bool). b || nat_eq index sem_wait_point || nat_eq index waitpid_point) (by_index join_point join_never frame index at (nat_eq index join_point) refl)
-      ∙ ap (λ (b : Bool). b || nat_eq index waitpid_point) (by_index sem_wait_point sem_wait_never frame index at (nat_eq index sem_wait_point) refl)
+      ap (λ (b : Bool). b || is_sem_wait_point index || nat_eq index waitpid_point) (by_index join_point join_never frame index at (nat_eq index join_point) refl)
+      ∙ ap (λ (b : Bool). (b || nat_eq index sem_timedwait_point) || nat_eq index waitpid_point) (by_index sem_wait_point sem_wait_never frame index at (nat_eq index sem_wait_point) refl)
+      ∙ ap (λ (b : Bool). b || nat_eq index waitpid_point) (by_index sem_timedwait_point timed_sem_wait_never frame index at (nat_eq index sem_timedwait_point) refl)
       ∙ by_index waitpid_point waitpid_never frame index at (nat_eq index waitpid_point) refl

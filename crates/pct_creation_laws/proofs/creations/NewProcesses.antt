@@ -82,8 +82,8 @@ another_by false false reclaimed false same by_status = refl
 
 -- not each item passes a test, exactly if one passes the other
 not_all : (a b rest some : Bool) → not a ≡ b → not rest ≡ some → not (a && rest) ≡ (b || some)
-not_all true b rest some first environment = environment ∙ ap (λ x. x || some) first
-not_all false b rest some first environment = ap (λ x. x || some) first
+not_all true b rest some first others = others ∙ ap (λ x. x || some) first
+not_all false b rest some first others = ap (λ x. x || some) first
 
 module _ (test other : Thread → Bool) where
   -- what is found after another thread, with another id

@@ -6,9 +6,9 @@ use Rattle.pct_names.proofs.Names.{Process, refl, Run, run, same_Some, Script, S
 use Rattle.pct_names.proofs.Names.{Transition, transition_by, true, What, while_called, ℕ, ◌∙◌, ◌∷◌, ◌≡◌, ◌≢◌, ◌⊎◌}
 use Rattle.pct_model.specs.declared.event.What.TheVariants as what
 use Rattle.pct_model.specs.declared.state.Phase.TheVariants as phase
-use Rattle.pct_laws.specs.ForkLaw.{is_handler_call, CallsHandler, EachHandler, fork_by, fork_of, ForksWithNoneLeft, KeepsFork, left_to_call}
+use Rattle.pct_laws.specs.ForkLaw.{answer_in, calls_fork, is_handler_call, CallsHandler, EachHandler, fork_by, fork_of, ForksWithNoneLeft}
+use Rattle.pct_laws.specs.ForkLaw.{KeepsFork, left_to_call}
 use Rattle.pct_laws.specs.Kept.{is_in_fork_handler}
-use Rattle.pct_laws.specs.ResultLaw.{answer_in, calls_fork}
 use Rattle.pct_laws.specs.ThreadSteps.{ThreadStep}
 use Rattle.pct_transition_cases.proofs.PlacedStatements.{is_placed}
 use Rattle.pct_thread_invariants.proofs.lift.ChangedThreads.{named_keeps, same_settled}
@@ -53,7 +53,7 @@ module _ (script : Script) (config : Config) where
     o = transition_by script config r.world p t e.alt
 
     abbrev environment : Environment
-    environment = environment_of config.slots r.world p t.id
+    environment = environment_of config r.world p t.id
 
     abbrev s : ThreadStep
     s = step_of script config r p e t
@@ -89,36 +89,29 @@ module _ (script : Script) (config : Config) where
         subst (AllByRecursion (λ w. EachHandler w s)) (sym event) (
           at_phase s call.func at.phase (record {
             fork = at;
-            fork_after = while_called at call.index;
+            next = (while_called at call.index).next;
             before = was;
-            after = after_is ∙ is;
             in_phase = refl;
-            next = first_is_left p.shared.fork_handlers at call next;
-            same_phase = refl;
-            same_length = refl;
+            after = after_is ∙ is;
+            first = first_is_left p.shared.fork_handlers at call next;
           }),
           tt,
         )
     called_by (fork_made at answer answers quiet was is prepared next) = all_quiet s o.events quiet
     called_by (fork_returns at answer quiet was is unprepared next) = all_quiet s o.events quiet
 
-    made_by : Steps → is_some (answer_in o.events) ≡ true → ForksWithNoneLeft s
-    made_by (fork_begins call other no_events) answers = absurd (false≢true (sym (ap (λ (ws : List What). is_some (answer_in ws)) no_events) ∙ answers))
-    made_by (fork_stays ends in_fork answer quiet is) answers = absurd (false≢true (sym (ap is_some answer) ∙ answers))
-    made_by (handler_called at call event was is next) answers =
-        absurd (false≢true (sym (ap (λ (ws : List What). is_some (answer_in ws)) event ∙ ap is_some (quiet_answer at.phase call.func)) ∙ answers))
-    made_by (fork_made at answer answered quiet was is prepared next) answers = record {
+    made_by : Steps → (answer : ℕ) → answer_in o.events ≡ Some answer → ForksWithNoneLeft answer s
+    made_by (fork_begins call other no_events) answer answers = absurd (none-some answer (sym (ap answer_in no_events) ∙ answers))
+    made_by (fork_stays ends in_fork no_answer quiet is) answer answers = absurd (none-some answer (sym no_answer ∙ answers))
+    made_by (handler_called at call event was is next) answer answers = absurd (none-some answer (sym (ap answer_in event ∙ quiet_answer at.phase call.func) ∙ answers))
+    made_by (fork_made at given answered quiet was is prepared next) answer answers = subst (λ (n : ℕ). ForksWithNoneLeft n s) (same_Some given answer (sym answered ∙ answers)) (record {
       fork = at;
-      fork_after = record { phase = phase.Parent; next = 0; length = at.length; answer = answer };
       before = was;
-      after = after_is ∙ is;
       prepared = prepared;
       none_left = none_is_left p.shared.fork_handlers at next;
-      next = refl;
-      all_left = refl;
-      same_length = refl;
-    }
-    made_by (fork_returns at answer quiet was is unprepared next) answers = absurd (false≢true (sym (ap is_some answer) ∙ answers))
+      after = after_is ∙ is;
+    })
+    made_by (fork_returns at no_answer quiet was is unprepared next) answer answers = absurd (none-some answer (sym no_answer ∙ answers))
 
     returned_by : Steps → (fork : ForkAt) → is_forking t.status ≡ true → fork_of t ≡ Some fork → fork_of (moved o t) ≡ None
         → (left_to_call p.shared.fork_handlers fork ≡ []) × (fork.phase ≢ phase.Prepare)
@@ -137,7 +130,7 @@ module _ (script : Script) (config : Config) where
     kept_by (fork_stays false stays answer silent is) no_call no_answer quiet = inl is
     kept_by (handler_called at call event was is next) no_call no_answer quiet =
         absurd (false≢true (sym quiet ∙ ap (list_any is_handler_call) event ∙ loud_call at.phase call.func))
-    kept_by (fork_made at answer answered silent was is prepared next) no_call no_answer quiet = absurd (false≢true (sym no_answer ∙ answered))
+    kept_by (fork_made at answer answered silent was is prepared next) no_call no_answer quiet = absurd (false≢true (sym no_answer ∙ ap is_some answered))
     kept_by (fork_returns at answer silent was is unprepared next) no_call no_answer quiet = inr is
 
     forks_of_step : KeepsFork script s

@@ -12,9 +12,8 @@ use Rattle.pct_model.specs.declared.state.Status.TheVariants as status
 use Rattle.pct_model.specs.declared.statement.Stmt.TheVariants as statement
 use Rattle.pct_model.specs.declared.transition.OwnAction.TheVariants as own_action
 use Rattle.pct_laws.specs.CancelLaw.{acts_or_stops}
-use Rattle.pct_laws.specs.ForkLaw.{is_handler_call, fork_by, fork_of}
+use Rattle.pct_laws.specs.ForkLaw.{answer_in, calls_fork, is_handler_call, fork_by, fork_of}
 use Rattle.pct_laws.specs.Kept.{is_in_fork_handler}
-use Rattle.pct_laws.specs.ResultLaw.{answer_in, calls_fork}
 use Rattle.pct_transition_cases.proofs.TransitionCases.{TransitionCase, fork_begun, fork_failed, fork_handler_called, fork_handler_left}
 use Rattle.pct_transition_cases.proofs.TransitionCases.{fork_returned, process_forked, process_not_forked, rests}
 use Rattle.pct_thread_invariants.proofs.lift.HandlerEvents.{of_each_phase}
@@ -97,7 +96,7 @@ module _ (passes : ℕ) (body : List Stmt) (shared : SharedState) (t : Thread) (
         → ForkStep next s events before after
     handler_called : (at : ForkAt) (call : HandlerCall) → events ≡ handler_event at.phase call.func ∷ [] → before ≡ Some at → after ≡ Some (while_called at call.index)
         → next_handler shared.fork_handlers at ≡ Some call → ForkStep next s events before after
-    fork_made : (at : ForkAt) (answer : ℕ) → is_some (answer_in events) ≡ true → list_any is_handler_call events ≡ false → before ≡ Some at
+    fork_made : (at : ForkAt) (answer : ℕ) → answer_in events ≡ Some answer → list_any is_handler_call events ≡ false → before ≡ Some at
         → after ≡ Some (record { phase = phase.Parent; next = 0; length = at.length; answer = answer }) → at.phase ≡ phase.Prepare
         → next_handler shared.fork_handlers at ≡ None → ForkStep next s events before after
     fork_returns : (at : ForkAt) → answer_in events ≡ None → list_any is_handler_call events ≡ false → before ≡ Some at → after ≡ None

@@ -3,10 +3,9 @@ use Rattle.pct_names.proofs.Names.{ap, Environment, false, ForkAt, Frame, FrameK
 use Rattle.pct_names.proofs.Names.{list_any, moved, NextStatement, None, Option, own_after, refl, Script, SharedState, Some, Status, Stmt}
 use Rattle.pct_names.proofs.Names.{sym, Thread, thread_at, Transition, true, ℕ, ◌∙◌, ◌≡◌, ◌⊎◌}
 use Rattle.std.proofs.lemmas.Bool.{true≢false}
-use Rattle.pct_laws.specs.ForkLaw.{fork_by, fork_of}
-use Rattle.pct_laws.specs.FrameLaw.{leaves_all}
+use Rattle.pct_laws.specs.ForkLaw.{calls_fork, fork_by, fork_of}
 use Rattle.pct_laws.specs.Kept.{is_in_fork_handler}
-use Rattle.pct_laws.specs.ResultLaw.{calls_fork}
+use Rattle.pct_laws.specs.RanAll.{leaves_all}
 use Rattle.pct_transition_cases.proofs.PlacedStatements.{IsPlaced, on_top}
 use Rattle.pct_transition_cases.proofs.TransitionCases.{TransitionCase, call_left, canceled, canceled_at_point, canceled_in_join}
 use Rattle.pct_transition_cases.proofs.TransitionCases.{canceled_in_sem_wait, canceled_in_waitpid, ended_in_wait, exit_called}

@@ -189,7 +189,7 @@ module _ (script : Script) (config : Config) (before : List Entry) (r : Run) (is
   moves = moves_of_run script config before r is e p t taken
 
   -- each other known thread of the process has ended, if the thread sees that
-  others_ended : (environment_of config.slots r.world p t.id).is_last ≡ true → OthersEnded e r.events
+  others_ended : (environment_of config r.world p t.id).is_last ≡ true → OthersEnded e r.events
   others_ended last id known other =
       let it : IsPresent (thread_with id p) = known_present script config before r is e.pid p made id known in
       let u : Thread = it.thread in
@@ -201,7 +201,7 @@ module _ (script : Script) (config : Config) (before : List Entry) (r : Run) (is
       (threads_kept script config before r is e.pid id p u made it.is it.here).ended ∙ ended
 
   -- the events of a legal entry, by what is reported of its thread before
-  follow_end : FollowEnd (environment_of config.slots r.world p t.id).is_last (summary_of e.pid e.tid r.events) (reverse (transition_by script config r.world p t e.alt).events)
+  follow_end : FollowEnd (environment_of config r.world p t.id).is_last (summary_of e.pid e.tid r.events) (reverse (transition_by script config r.world p t e.alt).events)
   follow_end =
       let m = mover script config r.world p e t moves in
       let found = ap (option_and_then (thread_with e.tid)) made ∙ m.found in
@@ -212,7 +212,7 @@ module _ (script : Script) (config : Config) (before : List Entry) (r : Run) (is
         | inl alive ↦ inl (record {
           not_ended = alive.0;
           not_exiting = alive.1;
-          all = case_follows config.passes p.shared t (environment_of config.slots r.world p t.id) (case_of_step script config r.world p e t moves);
+          all = case_follows config.passes p.shared t (environment_of config r.world p t.id) (case_of_step script config r.world p e t moves);
         })
         | inr exits ↦ inr (exits.0, exits.2)
       ]
@@ -223,4 +223,4 @@ module _ (script : Script) (config : Config) where
   pub after_end_of_run : AfterEveryRun script config (λ r. each allows r.events ≡ true)
   after_end_of_run = every_run script config (λ r. each allows r.events ≡ true)
       (λ before r is e p t taken law.
-      after_end_later e r.events (environment_of config.slots r.world p t.id).is_last (reverse (transition_by script config r.world p t e.alt).events) (follow_end script config before r is e p t taken) (others_ended script config before r is e p t taken) law) (λ some. refl)
+      after_end_later e r.events (environment_of config r.world p t.id).is_last (reverse (transition_by script config r.world p t e.alt).events) (follow_end script config before r is e p t taken) (others_ended script config before r is e p t taken) law) (λ some. refl)

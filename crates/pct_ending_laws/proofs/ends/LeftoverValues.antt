@@ -21,6 +21,6 @@ module _ (script : Script) (config : Config) where
   pub leftovers_of_run : AfterEveryRun script config (λ r. are_followed is_leftover reports_end r.events ≡ true)
   leftovers_of_run = every_run script config (λ r. are_followed is_leftover reports_end r.events ≡ true)
       (λ before r is e p t taken law.
-      let environment : Environment = environment_of config.slots r.world p t.id in
+      let environment : Environment = environment_of config r.world p t.id in
       followed_later is_leftover reports_end e r.events law (reverse (transition_by script config r.world p t e.alt).events)
       (case_follows config.passes (body_at script t.frames) p.shared t environment (case_of config.passes (body_at script t.frames) p.shared t environment false e.alt (next_of script t.frames) t.status (λ known. absurd (false≢true known))))) (λ some. refl)

@@ -86,7 +86,7 @@ module _ (script : Script) (config : Config) where
       let o : Transition = transition_by script config r.world p t e.alt in
       let moves : Moves script config r.world p e t = moves_of_run script config before r is e p t taken in
       let body : List Stmt = body_at script t.frames in
-      let environment : Environment = environment_of config.slots r.world p t.id in
+      let environment : Environment = environment_of config r.world p t.id in
       let next : NextStatement = next_of script t.frames in
       let values : length t.specific.values ≡ MAX_KEYS = ((variables_of_run script config before r is e.pid p (process_taken script config before r is e p t taken)).threads e.tid t (mover script config r.world p e t moves).found).values in
       let its_data : (thread_moved e.tid o t).specific ≡ data_after config.passes body p.shared t environment values o =

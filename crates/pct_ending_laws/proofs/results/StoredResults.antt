@@ -1,8 +1,8 @@
 -- The law of results: what each step of a run stores is what its statement stores, by the table.
 use Rattle.pct_names.proofs.Names.{◌&&◌, ◌-◌, [], acts_on_request, acts_or, adds, Alt, ap, ap₂, arith, at_pc, body_at, Bool, calls_handler}
-use Rattle.pct_names.proofs.Names.{choices_at, cond, Config, Dest, drop, drop_all, EAGAIN, encode, Entry, Environment, environment_of}
-use Rattle.pct_names.proofs.Names.{false, false≢true, ForkAt, forks_by, Frame, frames_written, gets_self, gets_specific, goes_on}
-use Rattle.pct_names.proofs.Names.{goes_on_after_handlers, goes_on_forking, handler_event, HandlerCall, has_no_frame, has_valid_id}
+use Rattle.pct_names.proofs.Names.{Cause, choices_at, cond, Config, Dest, drop, drop_all, EAGAIN, encode, Entry, Environment}
+use Rattle.pct_names.proofs.Names.{environment_of, false, false≢true, ForkAt, forks_by, Frame, frames_written, gets_self, gets_specific}
+use Rattle.pct_names.proofs.Names.{goes_on, goes_on_after_handlers, goes_on_forking, handler_event, HandlerCall, has_no_frame, has_valid_id}
 use Rattle.pct_names.proofs.Names.{is_forking, length, length-map, List, MAX_FORK_HANDLERS, may_register, moved, nat_eq, nat_lt, next_of}
 use Rattle.pct_names.proofs.Names.{NextStatement, None, NoStatement, not, offers, Option, option_map, own_after, OwnAction, Parent, Phase}
 use Rattle.pct_names.proofs.Names.{Prepare, Process, refl, registers_fork, registers_if, returns_in_child, returns_in_parent, Run, run}
@@ -14,6 +14,7 @@ use Rattle.std.proofs.lemmas.List.{drop-map}
 use Rattle.pct_model.specs.declared.event.Caller.TheVariants as caller
 use Rattle.pct_model.specs.declared.event.What.TheVariants as what
 use Rattle.pct_model.specs.declared.schedule.Alt.TheVariants as alt
+use Rattle.pct_model.specs.declared.state.Cause.TheVariants as cause
 use Rattle.pct_model.specs.declared.state.Phase.TheVariants.{Child as ChildPhase}
 use Rattle.pct_model.specs.declared.state.Status.TheVariants as status
 use Rattle.pct_model.specs.declared.statement.Dest.TheVariants as destination
@@ -26,7 +27,8 @@ use Rattle.pct_laws.specs.ResultLaw.{StoresResults}
 use Rattle.pct_transition_cases.proofs.TransitionCases.{TransitionCase, Leads, Returns, past_if, by_return, by_end, rests, jumped}
 use Rattle.pct_transition_cases.proofs.TransitionCases.{main_returned, start_returned, call_left, handler_left, exit_function_left}
 use Rattle.pct_transition_cases.proofs.TransitionCases.{fork_handler_called, fork_handler_left, process_forked, process_not_forked}
-use Rattle.pct_transition_cases.proofs.TransitionCases.{fork_failed, fork_returned}
+use Rattle.pct_transition_cases.proofs.TransitionCases.{fork_failed, fork_returned, canceled_after_wait, signal_handed_on}
+use Rattle.pct_transition_cases.proofs.TransitionCases.{ended_in_wait}
 use Rattle.pct_transition_cases.proofs.PlacedStatements.{IsPlaced, is_placed}
 use Rattle.pct_thread_invariants.proofs.ThreadsOfRun.{threads_kept}
 use Rattle.pct_thread_invariants.proofs.lift.ChangedThreads.{either_keeps, named_keeps, changed_shared}
@@ -147,6 +149,10 @@ module _ (passes : ℕ) (body : List Stmt) (shared : SharedState) (t : Thread) (
   does_nothing choice (StatementIn frame _) (status.Joining target) other is = refl
   does_nothing choice (StatementIn frame (statement.WaitPid result pid d)) (status.InWaitPid child) other is = refl
   does_nothing choice (StatementIn frame _) (status.InWaitPid child) other is = refl
+  does_nothing choice (StatementIn frame (statement.SemTimedWait result sem)) (status.InSem n) other is = refl
+  does_nothing choice (StatementIn frame _) (status.InSem n) other is = refl
+  does_nothing choice (StatementIn frame (statement.CondTimedWait result c m)) (status.Reacquire cond mutex why) other is = refl
+  does_nothing choice (StatementIn frame _) (status.Reacquire cond mutex why) other is = refl
   does_nothing choice (StatementIn frame st) (status.Forking at) other is = absurd (true≢false other)
   does_nothing choice (StatementIn frame st) _ other is = refl
 
@@ -160,6 +166,16 @@ module _ (passes : ℕ) (body : List Stmt) (shared : SharedState) (t : Thread) (
       → stored_at shared t frame s events ≡ []
   returns_nothing (by_return v) events = refl
   returns_nothing (by_end none) events = refl
+
+  -- a thread that acts upon a request in its wait, after it was unblocked
+  leaves_nothing : (frame : Frame) (s : Stmt) (c m : ℕ) (why : Cause) (later : List What) → stored_by shared t (StatementIn frame s) (status.Reacquire c m why) (what.WaitCanceled c ∷ later) ≡ []
+  leaves_nothing frame (statement.CondTimedWait result cond mutex) c m why later = refl
+  leaves_nothing frame _ c m why later = refl
+
+  -- and one that begins to end after that
+  ends_nothing : (frame : Frame) (s : Stmt) (c m : ℕ) → stored_by shared t (StatementIn frame s) (status.Reacquire c m cause.Canceled) (what.Acquired m ∷ what.EndingInWait c m ∷ []) ≡ []
+  ends_nothing frame (statement.CondTimedWait result cond mutex) c m = refl
+  ends_nothing frame _ c m = refl
 
   case_stores : (next : NextStatement) {s : Status} {o : Transition} → TransitionCase passes body shared t environment true next s o
       → is_forking s ≡ false → (is_nothing o ≡ true → stored_by shared t next s [] ≡ []) → StoresIts next s o
@@ -179,6 +195,9 @@ module _ (passes : ℕ) (body : List Stmt) (shared : SharedState) (t : Thread) (
   case_stores next (process_not_forked _ at prepares) other nothing = absurd (true≢false other)
   case_stores next (fork_failed frame result child at returns) other nothing = absurd (true≢false other)
   case_stores next (fork_returned frame result child at value) other nothing = absurd (true≢false other)
+  case_stores (StatementIn frame s) (canceled_after_wait _ c m why in_wait asked) other nothing = sym (leaves_nothing frame s c m why [])
+  case_stores (StatementIn frame s) (signal_handed_on _ c m u asked among) other nothing = sym (leaves_nothing frame s c m cause.Signalled (what.HandedOn c u ∷ []))
+  case_stores (StatementIn frame s) (ended_in_wait _ c m free) other nothing = sym (ends_nothing frame s c m)
   case_stores (StatementIn frame s) _ other nothing = refl
 
   -- ---- a thread in fork
@@ -286,17 +305,17 @@ module _ (script : Script) (config : Config) where
     moves : Moves script config r.world p e t
     moves = moves_of_run script config before r is e p t taken
 
-    case : TransitionCase config.passes (body_at script t.frames) p.shared t (environment_of config.slots r.world p t.id) true (next_of script t.frames) t.status o
+    case : TransitionCase config.passes (body_at script t.frames) p.shared t (environment_of config r.world p t.id) true (next_of script t.frames) t.status o
     case = case_of_step script config r.world p e t moves
 
     have : HaveVariables script p
     have = variables_of_run script config before r is e.pid p (process_taken script config before r is e p t taken)
 
     stores_are : o.writes ≡ its
-    stores_are = stores_its config.passes (body_at script t.frames) p.shared t (environment_of config.slots r.world p t.id) e.alt (next_of script t.frames) t.status taken.offered case
+    stores_are = stores_its config.passes (body_at script t.frames) p.shared t (environment_of config r.world p t.id) e.alt (next_of script t.frames) t.status taken.offered case
 
     in_variables : InVariables script o.writes
-    in_variables = case_named config.passes (body_at script t.frames) p.shared t (environment_of config.slots r.world p t.id) script (is_placed script t.frames) case
+    in_variables = case_named config.passes (body_at script t.frames) p.shared t (environment_of config r.world p t.id) script (is_placed script t.frames) case
 
     -- the frames are those after its own actions
     frames_are : (thread_moved e.tid o t).frames ≡ (moved o t).frames
@@ -315,7 +334,7 @@ module _ (script : Script) (config : Config) where
     frames_stay some =
         let kept : stays o.own ≡ true =
         sym (ap (λ (none : Bool). none || stays o.own) (ap (λ (stores : List Store). is_empty stores) stores_are ∙ some))
-        ∙ case_stays config.passes (body_at script t.frames) p.shared t (environment_of config.slots r.world p t.id) case in
+        ∙ case_stays config.passes (body_at script t.frames) p.shared t (environment_of config r.world p t.id) case in
         frames_are ∙ frames_moved o kept t
 
     local_after : is_empty its ≡ false → (i : ℕ)
@@ -348,7 +367,7 @@ module _ (script : Script) (config : Config) where
         ∙ (threads_kept script config before r is e.pid e.tid p t is_process it.found it.here).frames in
         subst (λ (locals : List (List ℕ)). Leave (all_locals (moved o t).frames) locals) same (own_leaves o.own (record at { frames = frames })
         (ap (λ (none : Bool). not (is_alone o.own) || none) has
-        ∙ case_alone config.passes (body_at script t.frames) p.shared t (environment_of config.slots r.world p t.id) case))
+        ∙ case_alone config.passes (body_at script t.frames) p.shared t (environment_of config r.world p t.id) case))
       where
         no_stores : (stores : List Store) → is_empty stores ≡ true → stores ≡ []
         no_stores [] is = refl

@@ -59,7 +59,7 @@ module _ (script : Script) (config : Config) where
       → IsTaken script config r.world e p t → uses_a_key script (step_of script config r p e t) ≡ true
   uses_of_step before r is e p t taken =
       let body : List Stmt = body_at script t.frames in
-      let environment : Environment = environment_of config.slots r.world p t.id in
+      let environment : Environment = environment_of config r.world p t.id in
       let next : NextStatement = next_of script t.frames in
       let reported : (key : ℕ) → is_some (key_with key p.shared.keys) ≡ has_key e.pid key r.events = key_events_of_run script config before r is e.pid p (process_taken script config before r is e p t taken) in
       if_runs (is_running t.status) (acts_or_stops (transition_by script config r.world p t e.alt).events) (names_a_key p.shared.globals e.pid r.events next) (λ running.

@@ -204,7 +204,7 @@ module _ (script : Script) (config : Config) where
   may_begin_of_step before r is e p t taken =
       let passes : ℕ = config.passes in
       let o : Transition = transition_by script config r.world p t e.alt in
-      let environment : Environment = environment_of config.slots r.world p t.id in
+      let environment : Environment = environment_of config r.world p t.id in
       let moves : Moves script config r.world p e t = moves_of_run script config before r is e p t taken in
       let it : HasValidId p e.tid t = mover script config r.world p e t moves in
       let made = process_taken script config before r is e p t taken in

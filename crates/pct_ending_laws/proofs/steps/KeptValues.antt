@@ -1,8 +1,8 @@
 -- The law of values, of a step: at each place only pthread_setspecific of its key, the call of its destructor and its deletion change the
 -- value of the thread that makes the step; and only the begin of a pass and these two events change whether the place is left in its pass.
-use Rattle.pct_names.proofs.Names.{[], ap, Bool, cond, Config, Entry, Environment, eqb-false, false, key_place, KeyValues, List, list_any}
+use Rattle.pct_names.proofs.Names.{ap, Bool, cond, Config, Entry, Environment, eqb-false, false, key_place, KeyValues, List, list_any}
 use Rattle.pct_names.proofs.Names.{nat_eq, next_of, NextStatement, Process, refl, Run, run, Script, SharedState, slice_get, Some, Status}
-use Rattle.pct_names.proofs.Names.{Stmt, sym, Thread, thread_moved, Transition, transition_by, true, value_at, value_of, ℕ, ◌∙◌, ◌∷◌, ◌≡◌}
+use Rattle.pct_names.proofs.Names.{Stmt, sym, Thread, thread_moved, Transition, transition_by, true, value_at, value_of, ℕ, ◌∙◌, ◌≡◌}
 use Rattle.pct_names.proofs.Names.{◌≢◌}
 use Rattle.std.proofs.Common.{get_or-set_other}
 use Rattle.std.proofs.Math.Bool.{or-false}

@@ -153,4 +153,4 @@ module _ (script : Script) (config : Config) (before : List Entry) (r : Run) (is
       by_frames : (none : Bool) → has_no_frame t.status ≡ none → is_idle (transition_by script config r.world p t e.alt) ≡ false
       by_frames false some = busy script config before r is e p t taken some
       by_frames true none =
-          stage_made script config.passes (body_at script t.frames) p.shared t (environment_of config.slots r.world p t.id) (keys_of_run script config before r is e.pid p process_is).keys e.alt (next_of script t.frames) t.status taken.offered none has_value
+          stage_made script config.passes (body_at script t.frames) p.shared t (environment_of config r.world p t.id) (keys_of_run script config before r is e.pid p process_is).keys e.alt (next_of script t.frames) t.status taken.offered none has_value

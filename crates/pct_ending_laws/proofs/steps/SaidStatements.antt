@@ -1,21 +1,16 @@
 -- A running thread makes the events of its next statement, acts upon a request, or its statement is a stop.
-use Rattle.pct_names.proofs.Names.{◌&&◌, ◌<◌, [], act_if, acts_on_request, acts_or, adds, Alt, and_from, ap, arith, begins_fork}
-use Rattle.pct_names.proofs.Names.{begins_join, begins_sem_wait, begins_wait, begins_waitpid, body_at, Bool, broadcasts, by_slot}
-use Rattle.pct_names.proofs.Names.{called_kind, calls, calls_point, ChoiceRow, choices_at, cond, Config, count_by, count_by-le-length}
-use Rattle.pct_names.proofs.Names.{creates, creates_by, creates_key, creates_key_by, deletes_key, Dest, detaches, emits, ends_block}
-use Rattle.pct_names.proofs.Names.{ends_by_exit, ends_now, Entry, Environment, environment_of, eqb-false, exits, fails_to_create}
-use Rattle.pct_names.proofs.Names.{fails_to_create_key, false, false≢true, finds_no_child, first_row, ForkAt, Frame, FrameKind, free_ids}
-use Rattle.pct_names.proofs.Names.{gets_self, gets_specific, goes_on, is_allowed_asynchronously, is_asynchronous, is_blocked, is_create}
-use Rattle.pct_names.proofs.Names.{is_deliverable, is_forbidden_in_child, is_key_create, is_none, is_optional, is_required, is_signal}
-use Rattle.pct_names.proofs.Names.{jumps, leaves_handler, length, List, list_any, locks, map, MAX_FORK_HANDLERS, may_register, nat_eq}
-use Rattle.pct_names.proofs.Names.{nat_lt, new_keys, new_or_go, next_of, NextStatement, None, NoStatement, not, offers, open_of, Operand}
-use Rattle.pct_names.proofs.Names.{Option, Optional, or_right, pick_or_go, point_kind, PointKind, pops, pos_of_ne-zero, posts, Process}
-use Rattle.pct_names.proofs.Names.{pushes, refl, registers_fork, registers_if, requests, Required, returns_by, Run, run, running_choices}
-use Rattle.pct_names.proofs.Names.{running_rows, runs, same_choice, Script, sets, sets_mode, sets_specific, sets_state, SharedState}
+use Rattle.pct_names.proofs.Names.{◌&&◌, [], acts_on_request, acts_or, adds, Alt, and_from, ap, begins_fork, begins_join, begins_sem_wait}
+use Rattle.pct_names.proofs.Names.{begins_wait, begins_waitpid, body_at, Bool, broadcasts, called_kind, calls, calls_point, choices_at}
+use Rattle.pct_names.proofs.Names.{cond, Config, creates, creates_by, creates_key, creates_key_by, deletes_key, Dest, detaches, emits}
+use Rattle.pct_names.proofs.Names.{ends_block, ends_by_exit, ends_now, Entry, Environment, environment_of, exits, fails_to_create}
+use Rattle.pct_names.proofs.Names.{fails_to_create_key, false, false≢true, finds_no_child, ForkAt, Frame, FrameKind, free_ids, gets_self}
+use Rattle.pct_names.proofs.Names.{gets_specific, goes_on, is_none, is_optional, is_required, jumps, leaves_handler, length, List, list_any}
+use Rattle.pct_names.proofs.Names.{locks, MAX_FORK_HANDLERS, may_register, nat_eq, nat_lt, new_keys, new_or_go, next_of, NextStatement}
+use Rattle.pct_names.proofs.Names.{None, NoStatement, not, offers, open_of, Operand, Option, Optional, or_right, pick_or_go, point_kind}
+use Rattle.pct_names.proofs.Names.{PointKind, pops, posts, Process, pushes, refl, registers_fork, registers_if, requests, Required}
+use Rattle.pct_names.proofs.Names.{returns_by, Run, run, runs, same_choice, Script, sets, sets_mode, sets_specific, sets_state, SharedState}
 use Rattle.pct_names.proofs.Names.{signals_by, Some, StatementIn, Status, Stmt, stop_at, stops_or, subst, suc, sym, tests_cancel, Thread}
-use Rattle.pct_names.proofs.Names.{Transition, transition_at, true, unlocks, value_of, Waiter, waiters_among, waiters_to_signal, What, Why}
-use Rattle.pct_names.proofs.Names.{World, ◌||◌, ℕ, ◌∙◌, ◌∷◌, ◌≡◌}
-use Rattle.std.proofs.Common.{eqb-true, eq-eqb}
+use Rattle.pct_names.proofs.Names.{Transition, transition_at, true, unlocks, value_of, Waiter, What, Why, World, ◌||◌, ℕ, ◌∙◌, ◌∷◌, ◌≡◌}
 use Rattle.std.proofs.lemmas.Bool.{true≢false}
 use Rattle.pct_model.specs.declared.event.Caller.TheVariants as caller
 use Rattle.pct_model.specs.declared.event.What.TheVariants as what
@@ -28,12 +23,11 @@ use Rattle.pct_model.specs.declared.transition.OwnAction.TheVariants as own_acti
 use Rattle.pct_model.specs.declared.transition.SharedAction.TheVariants as shared_action
 use Rattle.pct_model.specs.LineParsing.{is_empty}
 use Rattle.pct_laws.specs.CancelLaw.{is_running, acts_or_stops}
-use Rattle.pct_laws.specs.StatementLaw.{agree, of_return, of_pop, is_among, waits_on, unblocks, asked, asked_at, says_statement}
-use Rattle.pct_transition_cases.proofs.CaseOfTransition.{no_stops}
-use Rattle.pct_thread_invariants.proofs.lift.ProcessIds.{have_pids}
+use Rattle.pct_laws.specs.StatementLaw.{agree, of_return, of_pop, asked, asked_at, says_statement}
 use Rattle.pct_thread_invariants.proofs.lift.TakenSteps.{IsTaken}
 use Rattle.pct_cancel_laws.proofs.requests.ActingCalls.{its_status}
-use Rattle.pct_wake_laws.proofs.WaitingThreads.{count_waiting, waits_by_id, count_some, no_free_slot, no_free_place}
+use Rattle.pct_wake_laws.proofs.OwnChoices.{among, not_among, own_choices}
+use Rattle.pct_wake_laws.proofs.WaitingThreads.{no_free_slot, no_free_place}
 use Rattle.pct_ending_laws.proofs.steps.NamedWaits.{same, both_same}
 use Rattle.pct_thread_invariants.proofs.lift.MovedThreads.{EveryStep, step_of, every_step}
 
@@ -50,19 +44,8 @@ unless false b c then = refl
 
 -- ---- choices that name a number
 
-module _ {T : Type 0} (choose : T → Alt) (choice : Alt) where
-  -- a choice that differs from each of some choices is not among them
-  not_among : ((item : T) → same_choice choice (choose item) ≡ false) → (items : List T) → offers (map choose items) choice ≡ false
-  not_among differs [] = refl
-  not_among differs (item ∷ items) = ap (λ (b : Bool). b || offers (map choose items) choice) (differs item) ∙ not_among differs items
-
-  -- one that is among them passes the same test as theirs
-  among : (is_named : T → Bool) → ((item : T) → same_choice choice (choose item) ≡ is_named item) → (items : List T) → offers (map choose items) choice ≡ list_any is_named items
-  among is_named same_as [] = refl
-  among is_named same_as (item ∷ items) = ap (λ (b : Bool). b || offers (map choose items) choice) (same_as item) ∙ ap (λ (b : Bool). is_named item || b) (among is_named same_as items)
-
 -- a new number is one of those that are offered, and `go` is offered only if none is
-new_among : (n : ℕ) (numbers : List ℕ) → offers (new_or_go numbers) (alt.New n) ≡ true → is_among n numbers ≡ true
+new_among : (n : ℕ) (numbers : List ℕ) → offers (new_or_go numbers) (alt.New n) ≡ true → list_any (nat_eq n) numbers ≡ true
 new_among n [] offered = absurd (false≢true offered)
 new_among n (m ∷ numbers) offered = sym (among (λ k. alt.New k) (alt.New n) (nat_eq n) (λ k. refl) (m ∷ numbers)) ∙ offered
 
@@ -74,15 +57,7 @@ only_new : (choice : Alt) → same_choice choice alt.Go ≡ false → ((k : ℕ)
 only_new choice not_go differs [] = ap (λ (b : Bool). b || false) not_go
 only_new choice not_go differs (m ∷ numbers) = not_among (λ k. alt.New k) choice differs (m ∷ numbers)
 
--- a signal picks one of the threads that wait, and `go` is offered only if none waits
-picked : (id : ℕ) (waiters : List Waiter) → offers (pick_or_go waiters) (alt.Pick id) ≡ true → list_any (λ (w : Waiter). nat_eq id w.id) waiters ≡ true
-picked id [] offered = absurd (false≢true offered)
-picked id (waiter ∷ waiters) offered = sym (among (λ (w : Waiter). alt.Pick w.id) (alt.Pick id) (λ (w : Waiter). nat_eq id w.id) (λ w. refl) (waiter ∷ waiters)) ∙ offered
-
-none_picked : (waiters : List Waiter) → offers (pick_or_go waiters) alt.Go ≡ true → length waiters ≡ 0
-none_picked [] offered = refl
-none_picked (waiter ∷ waiters) offered = absurd (true≢false (sym offered ∙ not_among (λ (w : Waiter). alt.Pick w.id) alt.Go (λ w. refl) (waiter ∷ waiters)))
-
+-- a signal has no other choices than to pick a thread that waits, and `go`
 only_picks : (choice : Alt) → same_choice choice alt.Go ≡ false → ((k : ℕ) → same_choice choice (alt.Pick k) ≡ false) → (waiters : List Waiter) → offers (pick_or_go waiters) choice ≡ false
 only_picks choice not_go differs [] = ap (λ (b : Bool). b || false) not_go
 only_picks choice not_go differs (waiter ∷ waiters) = not_among (λ (w : Waiter). alt.Pick w.id) choice (λ w. differs w.id) (waiter ∷ waiters)
@@ -124,7 +99,7 @@ pop_said next v ((f, a) ∷ handlers) = pop_by next v f a handlers (nat_eq v 0) 
 -- ---- a statement
 
 module _ (slots passes : ℕ) (body : List Stmt) (shared : SharedState) (threads : List Thread) (t : Thread) (environment : Environment)
-    (some : 0 < slots) (ids : environment.new_ids ≡ free_ids slots threads) (waiting : (c : ℕ) → environment.waiters c ≡ waiters_among c (by_slot slots threads)) where
+    (ids : environment.new_ids ≡ free_ids slots threads) where
   -- the events are those of the statement
   abbrev IsSaid : Frame → Stmt → List What → Type 0
   IsSaid frame s events = asked slots body shared threads t frame s events ≡ true
@@ -132,39 +107,16 @@ module _ (slots passes : ℕ) (body : List Stmt) (shared : SharedState) (threads
   abbrev value : Frame → Operand → ℕ
   value frame v = value_of shared.globals frame v
 
-  -- the rows of the choices that a statement has of its own
-  abbrev own_rows : Stmt → List ChoiceRow
-  own_rows s = (is_blocked s shared, []) ∷ (is_create s, new_or_go environment.new_ids) ∷ (is_key_create s, new_or_go (new_keys shared.keys)) ∷ (is_signal s, pick_or_go (waiters_to_signal environment s)) ∷ []
-
-  -- a thread at a statement that is neither a stop nor a call of a cancellation point has no other choices
-  own_choices : (choice : Alt) (frame : Frame) (s : Stmt) → called_kind s ≡ None → is_allowed_asynchronously s ≡ false → stop_at body shared t environment frame s ≡ None → offers (choices_at body shared t environment (StatementIn frame s) status.Running) choice ≡ true
-      → offers (first_row (own_rows s) (alt.Go ∷ [])) choice ≡ true
-  unfolding choices_at running_choices running_rows
-  own_choices choice frame s no_point unsafe none =
-      let allowed = no_stops body shared t environment frame s none in
-      by (is_forbidden_in_child body shared frame s) (is_asynchronous t.state t.mode) (is_deliverable t.state t.pending) (is_required (called_kind s)) (is_optional (called_kind s)) (is_allowed_asynchronously s)
-      allowed.0 allowed.1.0 (ap is_required no_point) (ap is_optional no_point) unsafe
-    where
-      by : (forbidden asynchronous deliverable required optional allowed : Bool) → forbidden ≡ false → asynchronous && not allowed ≡ false → required ≡ false → optional ≡ false → allowed ≡ false
-          → offers (first_row ((forbidden, alt.Go ∷ []) ∷ (asynchronous, alt.Go ∷ act_if t.pending) ∷ (deliverable && required, alt.Act 0 ∷ []) ∷ (deliverable && optional, alt.Go ∷ alt.Act 0 ∷ []) ∷ own_rows s) (alt.Go ∷ [])) choice ≡ true
-          → offers (first_row (own_rows s) (alt.Go ∷ [])) choice ≡ true
-      by true _ _ _ _ _ allowed deferred shall may unsafe offered = absurd (true≢false allowed)
-      by false true _ _ _ true allowed deferred shall may unsafe offered = absurd (true≢false unsafe)
-      by false true _ _ _ false allowed deferred shall may unsafe offered = absurd (true≢false deferred)
-      by false false _ true _ _ allowed deferred shall may unsafe offered = absurd (true≢false shall)
-      by false false _ false true _ allowed deferred shall may unsafe offered = absurd (true≢false may)
-      by false false true false false _ allowed deferred shall may unsafe offered = offered
-      by false false false false false _ allowed deferred shall may unsafe offered = offered
-
   -- pthread_create and pthread_key_create
   create_said : (choice : Alt) (frame : Frame) (result id : Dest) (f : ℕ) (v : Operand) (detached : Bool) → offers (new_or_go (free_ids slots threads)) choice ≡ true
       → IsSaid frame (statement.Create result id f v detached) (creates_by choice (suc frame.pc) result id f (value frame v) detached).events
   unfolding creates fails_to_create
-  create_said (alt.New n) frame result id f v detached offered = and_from (is_among n (free_ids slots threads)) (agree detached detached) (new_among n (free_ids slots threads) offered) (agrees detached)
+  create_said (alt.New n) frame result id f v detached offered = and_from (list_any (nat_eq n) (free_ids slots threads)) (agree detached detached) (new_among n (free_ids slots threads) offered) (agrees detached)
   create_said alt.Go frame result id f v detached offered = no_free_slot slots threads (none_new (free_ids slots threads) offered)
   create_said (alt.Act n) frame result id f v detached offered = absurd (true≢false (sym offered ∙ only_new (alt.Act n) refl (λ k. refl) (free_ids slots threads)))
   create_said (alt.Pick n) frame result id f v detached offered = absurd (true≢false (sym offered ∙ only_new (alt.Pick n) refl (λ k. refl) (free_ids slots threads)))
   create_said (alt.Dtor n) frame result id f v detached offered = absurd (true≢false (sym offered ∙ only_new (alt.Dtor n) refl (λ k. refl) (free_ids slots threads)))
+  create_said alt.Expire frame result id f v detached offered = absurd (true≢false (sym offered ∙ only_new alt.Expire refl (λ k. refl) (free_ids slots threads)))
 
   create_key_said : (choice : Alt) (frame : Frame) (result key : Dest) (destructor : Option ℕ) → offers (new_or_go (new_keys shared.keys)) choice ≡ true
       → IsSaid frame (statement.KeyCreate result key destructor) (creates_key_by choice (suc frame.pc) result key destructor).events
@@ -174,32 +126,17 @@ module _ (slots passes : ℕ) (body : List Stmt) (shared : SharedState) (threads
   create_key_said (alt.Act n) frame result key destructor offered = absurd (true≢false (sym offered ∙ only_new (alt.Act n) refl (λ k. refl) (new_keys shared.keys)))
   create_key_said (alt.Pick n) frame result key destructor offered = absurd (true≢false (sym offered ∙ only_new (alt.Pick n) refl (λ k. refl) (new_keys shared.keys)))
   create_key_said (alt.Dtor n) frame result key destructor offered = absurd (true≢false (sym offered ∙ only_new (alt.Dtor n) refl (λ k. refl) (new_keys shared.keys)))
+  create_key_said alt.Expire frame result key destructor offered = absurd (true≢false (sym offered ∙ only_new alt.Expire refl (λ k. refl) (new_keys shared.keys)))
 
   -- pthread_cond_signal
-  abbrev seen : ℕ → List Waiter
-  seen c = waiters_among c (by_slot slots threads)
-
-  unblocks_by : (c id : ℕ) (none : Bool) → nat_eq (count_by (waits_on c) threads) 0 ≡ none → (count_by (waits_on c) threads ≡ 0 → nat_eq id 0 ≡ true) → (0 < count_by (waits_on c) threads → list_any (λ (t : Thread). waits_on c t && nat_eq id t.id) threads ≡ true)
-      → cond none (nat_eq id 0) (list_any (λ (t : Thread). waits_on c t && nat_eq id t.id) threads) ≡ true
-  unblocks_by c id true is if_none if_some = if_none (eqb-true (count_by (waits_on c) threads) 0 is)
-  unblocks_by c id false is if_none if_some = if_some (pos_of_ne-zero (eqb-false (count_by (waits_on c) threads) 0 is))
-
-  unblocks_one : (c id : ℕ) → list_any (λ (w : Waiter). nat_eq id w.id) (seen c) ≡ true → unblocks c id threads ≡ true
-  unblocks_one c id among =
-      unblocks_by c id (nat_eq (count_by (waits_on c) threads) 0) refl
-      (λ none. absurd (omega (arith, none, count_waiting slots c threads some, count_some (λ (w : Waiter). nat_eq id w.id) (seen c) among, count_by-le-length (λ (w : Waiter). nat_eq id w.id) (seen c))))
-      (λ waits. waits_by_id slots c id threads some among)
-
-  unblocks_none : (c : ℕ) → length (seen c) ≡ 0 → unblocks c 0 threads ≡ true
-  unblocks_none c none = unblocks_by c 0 (nat_eq (count_by (waits_on c) threads) 0) refl (λ zero. refl) (λ waits. absurd (omega (arith, waits, none, count_waiting slots c threads some)))
-
-  signal_said : (choice : Alt) (frame : Frame) (c : ℕ) → offers (pick_or_go (seen c)) choice ≡ true → IsSaid frame (statement.Signal c) (signals_by choice (suc frame.pc) c).events
+  signal_said : (choice : Alt) (frame : Frame) (c : ℕ) → offers (pick_or_go (environment.waiters c)) choice ≡ true → IsSaid frame (statement.Signal c) (signals_by choice (suc frame.pc) c).events
   unfolding signals_by
-  signal_said (alt.Pick u) frame c offered = and_from (nat_eq c c) (unblocks c u threads) (same c) (unblocks_one c u (picked u (seen c) offered))
-  signal_said alt.Go frame c offered = and_from (nat_eq c c) (unblocks c 0 threads) (same c) (unblocks_none c (none_picked (seen c) offered))
-  signal_said (alt.Act n) frame c offered = absurd (true≢false (sym offered ∙ only_picks (alt.Act n) refl (λ k. refl) (seen c)))
-  signal_said (alt.New n) frame c offered = absurd (true≢false (sym offered ∙ only_picks (alt.New n) refl (λ k. refl) (seen c)))
-  signal_said (alt.Dtor n) frame c offered = absurd (true≢false (sym offered ∙ only_picks (alt.Dtor n) refl (λ k. refl) (seen c)))
+  signal_said (alt.Pick u) frame c offered = same c
+  signal_said alt.Go frame c offered = same c
+  signal_said (alt.Act n) frame c offered = absurd (true≢false (sym offered ∙ only_picks (alt.Act n) refl (λ k. refl) (environment.waiters c)))
+  signal_said (alt.New n) frame c offered = absurd (true≢false (sym offered ∙ only_picks (alt.New n) refl (λ k. refl) (environment.waiters c)))
+  signal_said (alt.Dtor n) frame c offered = absurd (true≢false (sym offered ∙ only_picks (alt.Dtor n) refl (λ k. refl) (environment.waiters c)))
+  signal_said alt.Expire frame c offered = absurd (true≢false (sym offered ∙ only_picks alt.Expire refl (λ k. refl) (environment.waiters c)))
 
   -- pthread_atfork and atexit, by whether there is room
   register_fork_said : (frame : Frame) (result : Dest) (prepare parent child : Option ℕ) (room : Bool) → nat_lt (length shared.fork_handlers) MAX_FORK_HANDLERS ≡ room
@@ -233,7 +170,7 @@ module _ (slots passes : ℕ) (body : List Stmt) (shared : SharedState) (threads
   runs_said choice frame statement.End offered none = end_said body t.kept frame (open_of body frame.pc)
   runs_said choice frame (statement.Return v) offered none = return_said t.kept frame.kind (value frame v)
   runs_said choice frame (statement.Create result id f v detached) offered none =
-      create_said choice frame result id f v detached (subst (λ (numbers : List ℕ). offers (new_or_go numbers) choice ≡ true) ids (own_choices choice frame (statement.Create result id f v detached) refl refl none offered))
+      create_said choice frame result id f v detached (subst (λ (numbers : List ℕ). offers (new_or_go numbers) choice ≡ true) ids (own_choices body shared t environment choice frame (statement.Create result id f v detached) refl refl none offered))
   runs_said choice frame (statement.Detach id) offered none = same (value frame id)
   runs_said choice frame (statement.CancelThread id) offered none = same (value frame id)
   runs_said choice frame (statement.ThreadExit v) offered none = same (value frame v)
@@ -241,15 +178,15 @@ module _ (slots passes : ℕ) (body : List Stmt) (shared : SharedState) (threads
   runs_said choice frame (statement.SetMode asynchronous old) offered none = agrees asynchronous
   runs_said choice frame (statement.Push f v) offered none = both_same f (value frame v)
   runs_said choice frame (statement.Pop v) offered none = pop_said (suc frame.pc) (value frame v) t.handlers
-  runs_said choice frame (statement.KeyCreate result key destructor) offered none = create_key_said choice frame result key destructor (own_choices choice frame (statement.KeyCreate result key destructor) refl refl none offered)
+  runs_said choice frame (statement.KeyCreate result key destructor) offered none = create_key_said choice frame result key destructor (own_choices body shared t environment choice frame (statement.KeyCreate result key destructor) refl refl none offered)
   runs_said choice frame (statement.KeyDelete key) offered none = same (value frame key)
   runs_said choice frame (statement.Lock m) offered none = same m
   runs_said choice frame (statement.Unlock m) offered none = same m
   runs_said choice frame (statement.CondWait c m) offered none = same m
+  runs_said choice frame (statement.CondTimedWait result c m) offered none = same m
   runs_said choice frame (statement.Signal c) offered none =
-      signal_said choice frame c (subst (λ (waiters : List Waiter). offers (pick_or_go waiters) choice ≡ true) (waiting c) (own_choices choice frame (statement.Signal c) refl refl none offered))
-  runs_said choice frame (statement.Broadcast c) offered none =
-      and_from (nat_eq c c) (nat_eq (length (environment.waiters c)) (count_by (waits_on c) threads)) (same c) (eq-eqb (length (environment.waiters c)) (count_by (waits_on c) threads) (ap (λ (waiters : List Waiter). length waiters) (waiting c) ∙ count_waiting slots c threads some))
+      signal_said choice frame c (own_choices body shared t environment choice frame (statement.Signal c) refl refl none offered)
+  runs_said choice frame (statement.Broadcast c) offered none = same c
   runs_said choice frame (statement.SemPost sem) offered none = same sem
   runs_said choice frame (statement.AtFork result prepare parent child) offered none = register_fork_said frame result prepare parent child (nat_lt (length shared.fork_handlers) MAX_FORK_HANDLERS) refl
   runs_said choice frame (statement.WaitPid result pid d) offered none = waitpid_said frame result d pid (environment.family.child (value frame pid))
@@ -275,24 +212,20 @@ module _ (slots passes : ℕ) (body : List Stmt) (shared : SharedState) (threads
 -- ---- steps
 
 -- what a thread sees of the others, as the law has it
-seen_ids : (slots : ℕ) (w : World) (p : Process) (id : ℕ) → (environment_of slots w p id).new_ids ≡ free_ids slots p.threads
+seen_ids : (config : Config) (w : World) (p : Process) (id : ℕ) → (environment_of config w p id).new_ids ≡ free_ids config.slots p.threads
 unfolding environment_of
-seen_ids slots w p id = refl
-
-seen_waiters : (slots : ℕ) (w : World) (p : Process) (id c : ℕ) → (environment_of slots w p id).waiters c ≡ waiters_among c (by_slot slots p.threads)
-unfolding environment_of
-seen_waiters slots w p id c = refl
+seen_ids config w p id = refl
 
 module _ (script : Script) (config : Config) where
   -- so it is of the step of an entry that moves a thread
   says_statement_of_step : (before : List Entry) (r : Run) → run script config before ≡ Some r → (e : Entry) (p : Process) (t : Thread) → IsTaken script config r.world e p t → says_statement config.slots script (step_of script config r p e t) ≡ true
   says_statement_of_step before r is e p t taken = unless (is_running t.status) _ _ (λ running.
       let body : List Stmt = body_at script t.frames in
-      let environment : Environment = environment_of config.slots r.world p t.id in
+      let environment : Environment = environment_of config r.world p t.id in
       let next : NextStatement = next_of script t.frames in
       subst (λ (s : Status). offers (choices_at body p.shared t environment next s) e.alt ≡ true
       → (acts_or_stops (acts_or e.alt s (transition_at config.passes body p.shared t environment e.alt next s)).events || asked_at config.slots body p.shared p.threads t next (acts_or e.alt s (transition_at config.passes body p.shared t environment e.alt next s)).events) ≡ true) (sym (its_status t.status running))
-      (at_statement config.slots config.passes body p.shared p.threads t environment (have_pids script config before r is).some (seen_ids config.slots r.world p t.id) (seen_waiters config.slots r.world p t.id) e.alt next) taken.offered)
+      (at_statement config.slots config.passes body p.shared p.threads t environment (seen_ids config r.world p t.id) e.alt next) taken.offered)
 
   -- each running thread of a run makes the events of its next statement
   pub says_statements_of_run : EveryStep script config (λ s. says_statement config.slots script s ≡ true)

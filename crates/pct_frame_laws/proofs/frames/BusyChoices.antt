@@ -1,18 +1,18 @@
 -- A thread that is in a function always has something to do: each choice that it is offered goes on, acts, or has an event.
-use Rattle.pct_names.proofs.Names.{◌++◌, [], acts_on_request, acts_or, adds, Alt, begins_fork, begins_join, begins_sem_wait, begins_wait}
-use Rattle.pct_names.proofs.Names.{begins_waitpid, Bool, broadcasts, calls, calls_handler, calls_point, choices_at, cond, creates}
-use Rattle.pct_names.proofs.Names.{creates_by, creates_key, creates_key_by, deletes_key, Dest, detaches, emits, ends_block, ends_by_exit}
-use Rattle.pct_names.proofs.Names.{ends_join, ends_now, ends_sem_wait, Environment, exit_value_with, exits, fails_to_create}
-use Rattle.pct_names.proofs.Names.{fails_to_create_key, false, false≢true, finds_no_child, ForkAt, forks_by, Frame, FrameKind, gets_self}
-use Rattle.pct_names.proofs.Names.{gets_specific, go_if, goes_on_after_handlers, goes_on_forking, HandlerCall, hands_on, has_no_frame}
-use Rattle.pct_names.proofs.Names.{is_deliverable, is_fork_kind, is_free_mutex, is_none, is_some, joins_at, jumps, leaves_handler}
-use Rattle.pct_names.proofs.Names.{leaves_wait, length, List, locks, MAX_FORK_HANDLERS, may_register, nat_eq, nat_lt, NextStatement, None}
-use Rattle.pct_names.proofs.Names.{NoStatement, not, offers, open_of, Operand, Option, Optional, Parent, passes_point, Phase, point_kind}
-use Rattle.pct_names.proofs.Names.{PointKind, pops, posts, Prepare, pushes, Reacquire, reacquires, reaps, reaps_if, refl, registers_fork}
-use Rattle.pct_names.proofs.Names.{registers_if, requests, Required, returns_by, returns_in_child, returns_in_parent, runs, sets, sets_mode}
-use Rattle.pct_names.proofs.Names.{sets_specific, sets_state, SharedState, signals_by, Some, StatementIn, Status, Stmt, stop_at, stops_or}
-use Rattle.pct_names.proofs.Names.{subst, suc, sym, tests_cancel, Thread, Transition, transition_at, true, unlocks, waits_at, Why, ℕ, ◌∙◌}
-use Rattle.pct_names.proofs.Names.{◌∷◌, ◌≡◌}
+use Rattle.pct_names.proofs.Names.{◌&&◌, ◌++◌, [], acts_on_request, acts_or, adds, Alt, and_parts, begins_fork, begins_join}
+use Rattle.pct_names.proofs.Names.{begins_sem_wait, begins_wait, begins_waitpid, Bool, broadcasts, calls, calls_handler, calls_point, Cause}
+use Rattle.pct_names.proofs.Names.{choices_at, cond, creates, creates_by, creates_key, creates_key_by, deletes_key, Dest, detaches, emits}
+use Rattle.pct_names.proofs.Names.{ends_block, ends_by_exit, ends_join, ends_now, ends_sem_wait, Environment, exit_value_with, exits}
+use Rattle.pct_names.proofs.Names.{expires, fails_to_create, fails_to_create_key, false, false≢true, finds_no_child, ForkAt, forks_by}
+use Rattle.pct_names.proofs.Names.{Frame, FrameKind, gets_self, gets_specific, go_if, goes_on_after_handlers, goes_on_forking, HandlerCall}
+use Rattle.pct_names.proofs.Names.{hands_on, has_no_frame, is_deliverable, is_fork_kind, is_free_mutex, is_none, is_some, joins_at, jumps}
+use Rattle.pct_names.proofs.Names.{leaves_handler, leaves_wait, length, List, locks, MAX_FORK_HANDLERS, may_register, nat_eq, nat_lt}
+use Rattle.pct_names.proofs.Names.{NextStatement, None, NoStatement, not, offers, open_of, Operand, Option, Optional, Parent, passes_point}
+use Rattle.pct_names.proofs.Names.{Phase, point_kind, PointKind, pops, posts, Prepare, pushes, Reacquire, reacquires, reaps, reaps_if, refl}
+use Rattle.pct_names.proofs.Names.{registers_fork, registers_if, requests, Required, returns_by, returns_in_child, returns_in_parent, runs}
+use Rattle.pct_names.proofs.Names.{sets, sets_mode, sets_specific, sets_state, SharedState, signals_by, Some, StatementIn, Status, Stmt}
+use Rattle.pct_names.proofs.Names.{stop_at, stops_or, subst, suc, sym, tests_cancel, Thread, Transition, transition_at, true, unlocks}
+use Rattle.pct_names.proofs.Names.{waits_at, Why, ℕ, ◌∙◌, ◌∷◌, ◌≡◌}
 use Rattle.std.specs.Option.{option_map_or}
 use Rattle.std.proofs.lemmas.Bool.{true≢false}
 use Rattle.pct_model.specs.declared.process.Child.{Child}
@@ -24,8 +24,8 @@ use Rattle.pct_model.specs.declared.state.Status.TheVariants as status
 use Rattle.pct_model.specs.declared.statement.Stmt.TheVariants as statement
 use Rattle.pct_model.specs.LineParsing.{is_empty}
 use Rattle.pct_laws.specs.Kept.{is_call_of, is_join, IsSuspendedAt}
-use Rattle.pct_transition_cases.proofs.OfferedChoices.{is_acting, may_act, may_create, may_go, may_go_on, may_make_key, may_pick, Offered}
-use Rattle.pct_transition_cases.proofs.OfferedChoices.{offered_of}
+use Rattle.pct_transition_cases.proofs.OfferedChoices.{is_acting, may_act, may_create, may_expire, may_go}
+use Rattle.pct_transition_cases.proofs.OfferedChoices.{may_go_on_untimed, may_make_key, may_pick, Offered, offered_of}
 use Rattle.pct_frame_laws.proofs.frames.FrameCases.{is_idle}
 
 -- ---- what a thread has, by its status and its next statement
@@ -89,6 +89,7 @@ module _ (passes : ℕ) (body : List Stmt) (shared : SharedState) (t : Thread) (
   create_busy next a (may_go _ _ goes) other = refl
   create_busy next a (may_act _ _ alive delivered where_it_may) other = absurd (true≢false other)
   create_busy next a (may_create _ _ _ _ _ _ n among) other = refl
+  create_busy next a (may_expire _ _ timed can before) other = absurd (false≢true timed)
 
   create_key_busy : {frame : Frame} {result key : Dest} {destructor : Option ℕ} {choice : Alt} (next : ℕ)
       → Offered shared t environment (StatementIn frame (statement.KeyCreate result key destructor)) status.Running choice → is_acting choice ≡ false
@@ -97,6 +98,7 @@ module _ (passes : ℕ) (body : List Stmt) (shared : SharedState) (t : Thread) (
   create_key_busy next (may_go _ _ goes) other = refl
   create_key_busy next (may_act _ _ alive delivered where_it_may) other = absurd (true≢false other)
   create_key_busy next (may_make_key _ _ _ _ n among) other = refl
+  create_key_busy next (may_expire _ _ timed can before) other = absurd (false≢true timed)
 
   signal_busy : {frame : Frame} {c : ℕ} {choice : Alt} (next : ℕ)
       → Offered shared t environment (StatementIn frame (statement.Signal c)) status.Running choice → is_acting choice ≡ false → DoesSome (signals_by choice next c)
@@ -104,6 +106,7 @@ module _ (passes : ℕ) (body : List Stmt) (shared : SharedState) (t : Thread) (
   signal_busy next (may_go _ _ goes) other = refl
   signal_busy next (may_act _ _ alive delivered where_it_may) other = absurd (true≢false other)
   signal_busy next (may_pick _ _ u among) other = refl
+  signal_busy next (may_expire _ _ timed can before) other = absurd (false≢true timed)
 
   waitpid_busy : (next pid : ℕ) (result : Dest) (found : Option Child) → DoesSome (begins_waitpid found pid next result)
   unfolding finds_no_child
@@ -152,6 +155,23 @@ module _ (passes : ℕ) (body : List Stmt) (shared : SharedState) (t : Thread) (
       by_end (Some n) ended = refl
       by_end None ended = absurd (false≢true ended)
 
+  sem_wait_busy : (choice : Alt) (sem count : ℕ) (next : NextStatement) → IsSuspendedAt next (status.InSem sem) → DoesSome (ends_sem_wait choice sem count next)
+  unfolding ends_sem_wait
+  sem_wait_busy alt.Expire sem count (StatementIn frame (statement.SemTimedWait result s)) at = refl
+  sem_wait_busy choice sem count (StatementIn frame (statement.SemTimedWait result s)) at = refl
+  sem_wait_busy choice sem count (StatementIn frame (statement.SemWait s)) at = refl
+  sem_wait_busy choice sem count _ at = absurd (false≢true at)
+
+  wait_busy : (id c m : ℕ) (why : Cause) (next : NextStatement) → IsSuspendedAt next (status.Reacquire c m why) → DoesSome (reacquires id c m why next)
+  unfolding reacquires
+  wait_busy id c m cause.Canceled next at = refl
+  wait_busy id c m cause.TimedOut (StatementIn frame (statement.CondTimedWait result cond mutex)) at = refl
+  wait_busy id c m cause.TimedOut (StatementIn frame (statement.CondWait cond mutex)) at = absurd (false≢true (and_parts (nat_eq cond c && nat_eq mutex m) false at).1)
+  wait_busy id c m cause.TimedOut _ at = absurd (false≢true at)
+  wait_busy id c m why (StatementIn frame (statement.CondWait cond mutex)) at = refl
+  wait_busy id c m why (StatementIn frame (statement.CondTimedWait result cond mutex)) at = refl
+  wait_busy id c m why _ at = absurd (false≢true at)
+
   fork_by : (new : Option ℕ) (length : ℕ) → DoesSome (forks_by length new)
   unfolding forks_by
   fork_by (Some pid) length = refl
@@ -194,26 +214,24 @@ module _ (passes : ℕ) (body : List Stmt) (shared : SharedState) (t : Thread) (
   act_busy n next (status.Waiting c m) offered inside = refl
   act_busy n next (status.Reacquire c m cause.Signalled) offered inside = either_does (nat_eq n 0) _ _ refl refl
   act_busy n next (status.Reacquire c m cause.Broadcast) offered inside = refl
+  act_busy n next (status.Reacquire c m cause.TimedOut) offered inside = refl
   act_busy n next (status.Reacquire c m cause.Canceled) offered inside = absurd (true≢false (sym offered ∙ acts_once (is_free_mutex m shared) (is_deliverable t.state t.pending) n))
   act_busy n next (status.Forking at) offered inside = absurd (false≢true offered)
   act_busy n next _ offered inside = absurd (true≢false inside)
 
   go_busy : (choice : Alt) (next : NextStatement) (s : Status) → Offered shared t environment next s choice → is_acting choice ≡ false → IsBusy t.handlers t.kept s next → has_no_frame s ≡ false
       → (next ≡ NoStatement → s ≡ status.Running → ⊥) → DoesSome (transition_at passes body shared t environment choice next s)
-  unfolding transition_at passes_point ends_sem_wait reacquires
+  unfolding transition_at passes_point expires
   go_busy choice (StatementIn frame s) status.Running may other at inside some = stop_busy (stop_at body shared t environment frame s) _ (runs_busy choice frame s may other at)
   go_busy choice NoStatement status.Running may other at inside some = absurd (some refl refl)
   go_busy choice (StatementIn frame (statement.PointCall i)) (status.AtPoint index) may other at inside some = refl
   go_busy choice _ (status.AtPoint index) may other at inside some = absurd (false≢true at)
-  go_busy choice next (status.Joining id) may other at inside some = join_busy (exit_value_with id environment) id next (may_go_on may other) at
-  go_busy choice (StatementIn frame (statement.SemWait i)) (status.InSem sem) may other at inside some = refl
-  go_busy choice _ (status.InSem sem) may other at inside some = absurd (false≢true at)
-  go_busy choice (StatementIn frame (statement.WaitPid result operand d)) (status.InWaitPid pid) may other at inside some = reap_busy frame result d operand pid (environment.family.child pid) (may_go_on may other)
+  go_busy choice next (status.Joining id) may other at inside some = join_busy (exit_value_with id environment) id next (may_go_on_untimed may other refl) at
+  go_busy choice next (status.InSem sem) may other at inside some = sem_wait_busy choice sem _ next at
+  go_busy choice (StatementIn frame (statement.WaitPid result operand d)) (status.InWaitPid pid) may other at inside some = reap_busy frame result d operand pid (environment.family.child pid) (may_go_on_untimed may other refl)
   go_busy choice _ (status.InWaitPid pid) may other at inside some = absurd (false≢true at)
-  go_busy choice next (status.Waiting c m) may other at inside some = absurd (false≢true (may_go_on may other))
-  go_busy choice next (status.Reacquire c m cause.Canceled) may other at inside some = refl
-  go_busy choice (StatementIn frame (statement.CondWait cond mutex)) (status.Reacquire c m _) may other at inside some = refl
-  go_busy choice _ (status.Reacquire c m why) may other at inside some = absurd (false≢true at)
+  go_busy choice next (status.Waiting c m) may other at inside some = refl
+  go_busy choice next (status.Reacquire c m why) may other at inside some = wait_busy t.id c m why next at
   go_busy choice next (status.Forking fork) may other at inside some = fork_busy _ fork environment.family.new_pid next at
   go_busy choice next _ may other at inside some = absurd (true≢false inside)
 

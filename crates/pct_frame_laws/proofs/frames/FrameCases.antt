@@ -9,8 +9,9 @@ use Rattle.pct_model.specs.declared.transition.OwnAction.TheVariants as own_acti
 use Rattle.pct_model.specs.Jumps.{holds, is_while}
 use Rattle.pct_model.specs.LineParsing.{is_empty}
 use Rattle.std.specs.Option.{option_map_or}
-use Rattle.pct_laws.specs.FrameLaw.{Place, calls_of, leaves_all, past, places, stays}
-use Rattle.pct_laws.specs.ResultLaw.{calls_fork}
+use Rattle.pct_laws.specs.FrameLaw.{Place, calls_of, past, places, stays}
+use Rattle.pct_laws.specs.ForkLaw.{calls_fork}
+use Rattle.pct_laws.specs.RanAll.{leaves_all}
 use Rattle.pct_transition_cases.proofs.PlacedStatements.{IsPlaced, nowhere, on_top}
 use Rattle.pct_transition_cases.proofs.TransitionCases.{TransitionCase, Leads, Returns, past_nop, past_if, past_while, past_else, past_end}
 use Rattle.pct_transition_cases.proofs.TransitionCases.{by_return, by_end, rests, jumped, call_left, handler_left, exit_function_left}

@@ -145,7 +145,7 @@ module _ (script : Script) (config : Config) where
     };
     kept = λ w p t k choice known offered holds.
         let o : Transition = transition_by script config w p t choice in
-        let environment : Environment = environment_of config.slots w p t.id in
+        let environment : Environment = environment_of config w p t.id in
         record {
           reported = after_all summary (reverse o.events) holds.reported;
           fits = rule.kept w p t holds.reported choice known offered holds.fits;

@@ -3,7 +3,8 @@ use Rattle.pct_names.proofs.Names.{[], ap, ap₂, body_at, Bool, cond, Config, E
 use Rattle.pct_names.proofs.Names.{List, made_thread, map, moved, next_of, NextStatement, NoStatement, option_and_then, Process, refl, Run}
 use Rattle.pct_names.proofs.Names.{run, Script, Some, sym, Thread, thread_moved, thread_with, Transition, transition_by, true, ◌∙◌, ◌≡◌}
 use Rattle.std.proofs.lemmas.Bool.{true≢false}
-use Rattle.pct_laws.specs.FrameLaw.{Call, FrameLaw, KeepsOtherFrames, MovesFrames, places, its_calls, locals_at_call, StaysInHandler}
+use Rattle.pct_model.specs.LineParsing.{is_empty}
+use Rattle.pct_laws.specs.FrameLaw.{Call, FrameLaw, MovesFrames, places, its_calls, locals_at_call, StaysInHandler}
 use Rattle.pct_laws.specs.Kept.{ForkKept}
 use Rattle.pct_laws.specs.ThreadSummary.{ThreadSummary}
 use Rattle.pct_transition_cases.proofs.PlacedStatements.{is_placed}
@@ -21,8 +22,7 @@ use Rattle.pct_frame_laws.proofs.frames.BusyChoices.{always_busy}
 use Rattle.pct_frame_laws.proofs.frames.BusyThreads.{any_busy, no_frames}
 use Rattle.pct_frame_laws.proofs.frames.FrameCases.{case_calls, case_leaves, is_idle, LeavesIts}
 use Rattle.pct_frame_laws.proofs.frames.HandlerFrames.{stays_of_run}
-use Rattle.pct_frame_laws.proofs.frames.MovedFrames.{first_locals, made, moved_locals, moved_places}
-use Rattle.pct_frame_laws.proofs.frames.OtherFrames.{frames_by, others_of_run}
+use Rattle.pct_frame_laws.proofs.frames.MovedFrames.{first_locals, frames_by, made, moved_locals, moved_places, runs_by}
 
 module _ (script : Script) (config : Config) where
   module _ (before : List Entry) (r : Run) (is : run script config before ≡ Some r) (e : Entry) (p : Process) (t : Thread) (taken : IsTaken script config r.world e p t) where
@@ -30,7 +30,7 @@ module _ (script : Script) (config : Config) where
     o = transition_by script config r.world p t e.alt
 
     abbrev environment : Environment
-    environment = environment_of config.slots r.world p t.id
+    environment = environment_of config r.world p t.id
 
     abbrev next : NextStatement
     next = next_of script t.frames
@@ -82,7 +82,11 @@ module _ (script : Script) (config : Config) where
     arguments_are = ap₂ first_locals calls_are frames_are ∙ moved_locals o t ∙ ap (λ (calls : List Call). map locals_at_call calls) (sym calls_are)
 
     frames_of_step : MovesFrames script (step_of script config r p e t)
-    frames_of_step = record { places = ap (λ (frames : List Frame). places frames) frames_are ∙ moved_places o t ∙ leaves; arguments = arguments_are }
+    frames_of_step = record {
+      places = ap (λ (frames : List Frame). places frames) frames_are ∙ moved_places o t ∙ leaves;
+      arguments = arguments_are;
+      runs = λ calls. runs_by e.tid o t (mover script config r.world p e t moves).valid (sym (ap (λ (made : List Call). is_empty made) calls_are) ∙ calls);
+    }
 
   -- each step does to the frames of its thread what the law has
   frames_of_run : EveryStep script config (MovesFrames script)
@@ -92,6 +96,5 @@ module _ (script : Script) (config : Config) where
   pub frame_law : (entries : List Entry) → FrameLaw script config entries
   frame_law entries = record {
     frames = each_step script config (MovesFrames script) frames_of_run entries;
-    others = each_step script config KeepsOtherFrames (others_of_run script config) entries;
     handlers = each_step script config StaysInHandler (stays_of_run script config) entries;
   }

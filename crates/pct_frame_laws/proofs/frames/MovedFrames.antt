@@ -1,11 +1,17 @@
 -- What a transition does to the frames of its thread: it puts a frame of a call on top, and leaves all, some or none of those before; a number
 -- that is stored in a local moves no frame.
-use Rattle.pct_names.proofs.Names.{◌++◌, [], ap, at_pc, Dest, Frame, frames_written, length, List, map, moved, None, Option, own_after}
-use Rattle.pct_names.proofs.Names.{OwnAction, refl, Some, take, Thread, thread_at, Transition, without_first, written, ℕ, ◌∙◌, ◌∷◌, ◌≡◌}
+use Rattle.pct_names.proofs.Names.{◌++◌, [], ap, at_pc, Bool, cond, Dest, false, Frame, frames_written, has_valid_id, length, List, map}
+use Rattle.pct_names.proofs.Names.{moved, None, Option, own_after, OwnAction, refl, Some, Status, take, Thread, thread_at, thread_moved}
+use Rattle.pct_names.proofs.Names.{Transition, true, without_first, written, ℕ, ◌∙◌, ◌∷◌, ◌≡◌}
+use Rattle.std.proofs.lemmas.Bool.{false≢true, true≢false}
 use Rattle.pct_model.specs.declared.state.FrameKind.TheVariants as kind
+use Rattle.pct_model.specs.declared.state.Status.TheVariants as status
 use Rattle.pct_model.specs.declared.statement.Dest.TheVariants as destination
 use Rattle.pct_model.specs.declared.transition.OwnAction.TheVariants as own_action
+use Rattle.pct_model.specs.LineParsing.{is_empty}
+use Rattle.pct_laws.specs.CancelLaw.{is_running}
 use Rattle.pct_laws.specs.FrameLaw.{Call, locals_at_call, Place, places}
+use Rattle.pct_thread_invariants.proofs.lift.ChangedThreads.{named_keeps, same_settled}
 
 -- the place of a function that is called
 abbrev pub called : List Call → List Place
@@ -68,6 +74,10 @@ pub moved_places : (o : Transition) (t : Thread) → places (moved o t).frames �
 moved_places o t =
     own_places o.own _ ∙ ap (λ (before : List Place). called (made o.own) ++ left o.own before) (written_places o.writes (thread_at o.next t).frames ∙ start_places o.next t)
 
+-- the frames of the thread that makes the step are those after its own transition
+pub frames_by : (tid : ℕ) (o : Transition) (t : Thread) → (thread_moved tid o t).frames ≡ (cond (has_valid_id tid t) (moved o t) t).frames
+frames_by tid o t = named_keeps (λ (u : Thread). u.frames) (λ u joined pending detached specific s same. refl) o.named (cond (has_valid_id tid t) (moved o t) t)
+
 -- ---- arguments
 
 -- the locals of the first of some frames, as many as there are calls
@@ -81,3 +91,26 @@ own_locals _ t = refl
 
 pub moved_locals : (o : Transition) (t : Thread) → first_locals (made o.own) (moved o t).frames ≡ map locals_at_call (made o.own)
 moved_locals o t = own_locals o.own _
+
+-- ---- status
+
+own_runs : (a : Option OwnAction) (t : Thread) → is_empty (made a) ≡ false → (own_after a t).status ≡ status.Running
+unfolding own_after
+own_runs (Some (own_action.Call f a kind)) t calls = refl
+own_runs (Some (own_action.CallHandler f a)) t calls = refl
+own_runs (Some (own_action.CallForkHandler at f)) t calls = refl
+own_runs (Some (own_action.RunHandler f a)) t calls = refl
+own_runs (Some (own_action.RunDestructor k f v)) t calls = refl
+own_runs (Some (own_action.RunExitFunction f)) t calls = refl
+own_runs _ t calls = absurd (true≢false calls)
+
+running : (s : Status) → is_running s ≡ true → s ≡ status.Running
+running status.Running is = refl
+running _ is = absurd (false≢true is)
+
+-- a thread that makes a call runs after its step
+pub runs_by : (tid : ℕ) (o : Transition) (t : Thread) → has_valid_id tid t ≡ true → is_empty (made o.own) ≡ false → (thread_moved tid o t).status ≡ status.Running
+runs_by tid o t valid calls =
+    running (thread_moved tid o t).status
+    (named_keeps (λ (u : Thread). is_running u.status) (λ u joined pending detached specific s same. same_settled is_running (λ c m why. refl) s u.status same) o.named (cond (has_valid_id tid t) (moved o t) t)
+    ∙ ap (λ (b : Bool). is_running (cond b (moved o t) t).status) valid ∙ ap is_running (own_runs o.own _ calls))

@@ -1,6 +1,6 @@
 -- The law of joins holds of the events of every run.
 use Rattle.pct_names.proofs.Names.{◌&&◌, ◌++◌, and_from, ap, Bool, Config, Entry, environment_of, event_of, false, false_from_ne_true}
-use Rattle.pct_names.proofs.Names.{false≢true, is_ended_status, join_point, List, list_all, made_process, made_thread, map, nat_eq}
+use Rattle.pct_names.proofs.Names.{false≢true, is_ended_status, join_point, List, list_all, made_process, made_thread, map, nat_eq, next_of}
 use Rattle.pct_names.proofs.Names.{NextStatement, not, Option, option_and_then, option_map_or, Process, refl, reverse, Run, run, same_Some}
 use Rattle.pct_names.proofs.Names.{Script, Some, Status, Stmt, sym, Thread, thread_with, Transition, transition_by, true}
 use Rattle.pct_names.proofs.Names.{true_from_ne_false, value_of, What, with_id, ◌||◌, ℕ, ◌∙◌, ◌∷◌, ◌≡◌}
@@ -93,10 +93,10 @@ module _ (script : Script) (config : Config) (before : List Entry) (r : Run) (is
       and_from _ _ (and_from _ _ (and_from _ _ (ap (λ (value : Option ℕ). option_map_or (λ n. nat_eq n v) value false) (kept.value v ended) ∙ eq-eqb v v refl)
       (ap not (sym (joined_of_run script config before r is e.pid id u (made id u is_u) target.here) ∙ ap (λ (x : Thread). x.joined) (sym same) ∙ one.not_joined)))
       (ap not (sym (detached_of_run script config before r is e.pid id u (made id u is_u) target.here) ∙ ap (λ (x : Thread). x.detached) (sym same) ∙ one.joinable)))
-      (ap (λ (o : Option What). option_map_or (reports_call join_point) o false) (newest_call_of_run script config before r is e.pid e.tid t it_made it.here (what.Called join_point) (ap call_event joins)))
+      (ap (λ (o : Option What). option_map_or (reports_call join_point) o false) (newest_call_of_run script config before r is e.pid e.tid t it_made it.here (what.Called join_point) (ap (call_event (next_of script t.frames)) joins)))
 
   -- the events of a transition
-  case_lawful : {body : List Stmt} {next : NextStatement} {s : Status} {o : Transition} → t.status ≡ s → TransitionCase config.passes body p.shared t (environment_of config.slots r.world p t.id) true next s o → (t.ended ≡ true → list_all names_none (reverse o.events) ≡ true) → each allows r.events ≡ true
+  case_lawful : {body : List Stmt} {next : NextStatement} {s : Status} {o : Transition} → t.status ≡ s → TransitionCase config.passes body p.shared t (environment_of config r.world p t.id) true next s o → (t.ended ≡ true → list_all names_none (reverse o.events) ≡ true) → each allows r.events ≡ true
       → each allows (map (event_of e) (reverse o.events) ++ r.events) ≡ true
   unfolding environment_of
   case_lawful joins (join_ended frame operand d id v target is ended) silent law = and_from _ _ (joins_ended id v target joins is ended) law

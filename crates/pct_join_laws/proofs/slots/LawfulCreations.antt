@@ -39,7 +39,7 @@ module _ (script : Script) (config : Config) (before : List Entry) (r : Run) (is
           reclaimed_of_run script config before r is e.pid p process_is tid it.thread it.is it.here over.0 over.1
 
   -- the events of a transition
-  case_lawful : {body : List Stmt} {next : NextStatement} {s : Status} {o : Transition} → TransitionCase config.passes body p.shared t (environment_of config.slots r.world p t.id) true next s o → each (allows config.slots) r.events ≡ true
+  case_lawful : {body : List Stmt} {next : NextStatement} {s : Status} {o : Transition} → TransitionCase config.passes body p.shared t (environment_of config r.world p t.id) true next s o → each (allows config.slots) r.events ≡ true
       → each (allows config.slots) (map (event_of e) (reverse o.events) ++ r.events) ≡ true
   unfolding environment_of
   case_lawful (thread_made frame result id f v detached new among) law =

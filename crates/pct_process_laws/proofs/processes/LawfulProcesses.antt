@@ -122,7 +122,7 @@ module _ (script : Script) (config : Config) where
     o = transition_by script config r.world p t e.alt
 
     -- all this is known of the thread of an entry
-    is_ready : IsReady config.passes (body_at script t.frames) p.shared t (environment_of config.slots r.world p t.id) e r.events (next_of script t.frames) t.status
+    is_ready : IsReady config.passes (body_at script t.frames) p.shared t (environment_of config r.world p t.id) e r.events (next_of script t.frames) t.status
     unfolding environment_of
     is_ready = record {
       forks = λ new next. let made = next_unmade script config before r is e p t taken new (gives_next script config r.world p t e.alt taken.offered new next) in and_from _ _ (ap not made.0) (ap not made.1);
@@ -136,7 +136,7 @@ module _ (script : Script) (config : Config) where
     -- each event of a step may change what it changes
     changes_later : ChangesLaw r.events → ChangesLaw (with_step e o r).events
     changes_later law =
-        let environment : Environment = environment_of config.slots r.world p t.id in
+        let environment : Environment = environment_of config r.world p t.id in
         case_changes config.passes (body_at script t.frames) p.shared t environment e r.events
         (case_of config.passes (body_at script t.frames) p.shared t environment true e.alt (next_of script t.frames) t.status (λ known. taken.offered))
         is_ready law

@@ -113,7 +113,7 @@ module _ (script : Script) (config : Config) (before : List Entry) (r : Run) (is
       plain_if_exits script t.frames (ap (λ (s : Status). is_exiting s t.frames) (sym runs) ∙ sym of_it.exiting ∙ exits) of_it.exit_frames
 
   -- as the last thread of a process ends, no thread of it exits
-  none_exits : (environment_of config.slots r.world p t.id).is_last ≡ true → t.status ≡ status.Ending → (tid : ℕ) (u : Thread) → thread_with tid p ≡ Some u → u.gone ≡ false → (summary_of e.pid tid r.events).exiting ≡ true → ⊥
+  none_exits : (environment_of config r.world p t.id).is_last ≡ true → t.status ≡ status.Ending → (tid : ℕ) (u : Thread) → thread_with tid p ≡ Some u → u.gone ≡ false → (summary_of e.pid tid r.events).exiting ≡ true → ⊥
   unfolding environment_of
   none_exits last ends tid u found here exits =
       let is_exit : is_exiting u.status u.frames ≡ true = sym (kept tid u found here).exiting ∙ exits in
@@ -127,7 +127,7 @@ module _ (script : Script) (config : Config) (before : List Entry) (r : Run) (is
       true≢false (sym (last_kept script config before r is e.pid p process_is tid u found here ended exits e.tid t it.found it.here) ∙ alive ends refl refl)
 
   -- so the process has no exit value then
-  pub last_has_none : (environment_of config.slots r.world p t.id).is_last ≡ true → t.status ≡ status.Ending → is_some p.shared.exit_value ≡ false
+  pub last_has_none : (environment_of config r.world p t.id).is_last ≡ true → t.status ≡ status.Ending → is_some p.shared.exit_value ≡ false
   last_has_none last ends = false_from_ne_true (is_some p.shared.exit_value) (λ some.
       let x : SomeThread e.pid r.world r.events = some_thread e.pid r.world r.events (numbers_of_run script config before r is).of_threads (ap (λ (v : Option ℕ). is_some v) (sym (exit_value_of_run script config before r is e.pid p process_is)) ∙ some) in
       let u = found_thread (thread_with x.tid p) (subst (λ (found : Option Process). IsSomeAnd (option_and_then (thread_with x.tid) found) (λ t. t.gone ≡ false)) process_is x.made) in

@@ -75,7 +75,7 @@ module _ (script : Script) (config : Config) where
   ends_rule = record {
     initial = (refl, refl);
     own = λ w p e t k known same.
-        let environment : Environment = environment_of config.slots w p t.id in
+        let environment : Environment = environment_of config w p t.id in
         case_ends config.passes (body_at script t.frames) t environment false e p (k 0) same (case_of config.passes (body_at script t.frames) p.shared t environment false e.alt (next_of script t.frames) t.status (λ known. absurd (false≢true known)));
     born = λ w p e t k new known fork same. (refl, refl);
     other = λ pid o p k same. (ap (λ (s : SharedState). s.exit_value) (other_shared pid o p) ∙ same.0, other_action pid o.process p ∙ same.1);

@@ -265,7 +265,7 @@ module _ (script : Script) (config : Config) where
     reaped_now : (pid : ℕ) → list_any (reaps_process pid) (reverse o.events) ≡ true → IsSomeAnd (made_process pid (after_transition e.pid e.tid o r.world)) (λ q. was_reaped q.ended ≡ true)
     unfolding environment_of
     reaped_now pid reaps =
-        let environment : Environment = environment_of config.slots r.world p t.id in
+        let environment : Environment = environment_of config r.world p t.id in
         let c : TransitionCase config.passes (body_at script t.frames) p.shared t environment true (next_of script t.frames) t.status o =
         case_of config.passes (body_at script t.frames) p.shared t environment true e.alt (next_of script t.frames) t.status (λ known. taken.offered) in
         let it : Reaps environment pid e o = case_reaps config.passes (body_at script t.frames) p.shared t environment true e pid c reaps in
@@ -303,7 +303,7 @@ module _ (script : Script) (config : Config) where
         absurd (omega (arith, number, none))
 
     -- what the law asks of the event
-    pub reaps_child : (pid n : ℕ) (child : Child) → (environment_of config.slots r.world p t.id).family.child pid ≡ Some child → child.ended ≡ Some n → may_change (what.Reaped pid n) e.pid e.tid r.events ≡ true
+    pub reaps_child : (pid n : ℕ) (child : Child) → (environment_of config r.world p t.id).family.child pid ≡ Some child → child.ended ≡ Some n → may_change (what.Reaped pid n) e.pid e.tid r.events ≡ true
     unfolding environment_of
     reaps_child pid n child is_child ended =
         let found : IsEndedChild r.world p.pid pid n = ended_child r.world (have_pids script config before r is).distinct p.pid pid n child is_child ended in

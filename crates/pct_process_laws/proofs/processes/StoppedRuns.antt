@@ -52,16 +52,16 @@ module _ (script : Script) (config : Config) (w : World) (p : Process) (t : Thre
   o = transition_by script config w p t choice
 
   -- the transition of a thread, by case
-  its_case : TransitionCase config.passes (body_at script t.frames) p.shared t (environment_of config.slots w p t.id) false (next_of script t.frames) t.status o
-  its_case = case_of config.passes (body_at script t.frames) p.shared t (environment_of config.slots w p t.id) false choice (next_of script t.frames) t.status (λ known. absurd (false≢true known))
+  its_case : TransitionCase config.passes (body_at script t.frames) p.shared t (environment_of config w p t.id) false (next_of script t.frames) t.status o
+  its_case = case_of config.passes (body_at script t.frames) p.shared t (environment_of config w p t.id) false choice (next_of script t.frames) t.status (λ known. absurd (false≢true known))
 
   -- it has no event of a stop, if it leads to none
   stops : stop_after o.stop None ≡ None → list_any is_stop (reverse o.events) ≡ false
-  stops = case_stops config.passes (body_at script t.frames) p.shared t (environment_of config.slots w p t.id) false its_case
+  stops = case_stops config.passes (body_at script t.frames) p.shared t (environment_of config w p t.id) false its_case
 
   -- only the last event of a step stops the run or ends the process
   pub closes_last : list_any is_closing (without_first (reverse o.events)) ≡ false
-  closes_last = case_closes config.passes (body_at script t.frames) p.shared t (environment_of config.slots w p t.id) false its_case
+  closes_last = case_closes config.passes (body_at script t.frames) p.shared t (environment_of config w p t.id) false its_case
 
 -- ---- every run
 

@@ -78,7 +78,7 @@ module _ (script : Script) where
   module _ (config : Config) where
     plain_after : (w : World) (p : Process) (e : Entry) (t : Thread) → Moves script config w p e t → RegistersPlain p.shared → RegistersPlain (changed e.tid (transition_by script config w p t e.alt) p).shared
     plain_after w p e t moves plain =
-        let environment : Environment = environment_of config.slots w p t.id in
+        let environment : Environment = environment_of config w p t.id in
         subst RegistersPlain (sym (changed_shared e.tid (transition_by script config w p t e.alt) p))
         (case_plain config.passes p.shared t environment (is_placed script t.frames) (case_of config.passes (body_at script t.frames) p.shared t environment true e.alt (next_of script t.frames) t.status (λ known. moves.offered)) plain)
 

@@ -58,7 +58,7 @@ module _ (script : Script) (config : Config) (w : World) (p : Process) (e : Entr
   o = transition_by script config w p t e.alt
 
   abbrev environment : Environment
-  environment = environment_of config.slots w p t.id
+  environment = environment_of config w p t.id
 
   its_case : TransitionCase config.passes (body_at script t.frames) p.shared t environment true (next_of script t.frames) t.status o
   its_case = case_of config.passes (body_at script t.frames) p.shared t environment true e.alt (next_of script t.frames) t.status (λ known. moves.offered)

@@ -1,8 +1,8 @@
 -- A key that is left in the pass of a thread: its place, which is in the pass, and its destructor.
-use Rattle.pct_names.proofs.Names.{◌<◌, and_parts, ap, Bool, cond, false, false≢true, get_or_from_slice_get, if_number, is_due, is_left}
-use Rattle.pct_names.proofs.Names.{is_some, Key, key_at, key_place, key_with, KeyPlace, KeyValues, length, List, MAX_KEYS, nat_eq, None}
-use Rattle.pct_names.proofs.Names.{none-some, not, not-true, number_at, Option, option_and_then, option_and_then_some, option_map_or, refl}
-use Rattle.pct_names.proofs.Names.{Script, slice_get, slice_get_within, Some, subst, sym, true, value_at, ℕ, ◌∙◌, ◌≡◌}
+use Rattle.pct_names.proofs.Names.{◌<◌, and_parts, ap, Bool, cond, false, false≢true, get_or_from_slice_get, if_number, is_left, is_some}
+use Rattle.pct_names.proofs.Names.{Key, key_at, key_place, key_with, KeyPlace, KeyValues, length, List, MAX_KEYS, nat_eq, None, none-some}
+use Rattle.pct_names.proofs.Names.{not, not-true, number_at, Option, option_and_then, option_and_then_some, option_map_or, refl, Script}
+use Rattle.pct_names.proofs.Names.{slice_get, slice_get_within, Some, subst, sym, true, value_at, ℕ, ◌∙◌, ◌≡◌}
 use Rattle.std.proofs.Common.{eq-eqb}
 use Rattle.pct_laws.specs.Kept.{KeysKept, IsLastMade}
 use Rattle.pct_thread_invariants.proofs.lift.OfferedNumbers.{IsNumberOf}
@@ -52,14 +52,7 @@ module _ (script : Script) (keys : List KeyPlace) (kept : KeysKept script keys) 
         let due = and_parts (option_map_or (λ (key : Key). is_some key.destructor) (key_at keys left.item) false) (not (nat_eq (value_at left.item own) 0)) parts.1 in
         ap (is_in own.in_pass) (place_of_left (key_at keys left.item) refl due.0) ∙ is_marked own.in_pass left.item (slice_get own.in_pass left.item) refl parts.0
 
-    -- its destructor is due
-    pub left_is_due : is_due keys own (key_place k) ≡ true
-    left_is_due =
-        let parts = and_parts (option_map_or (λ in_pass. in_pass) (slice_get own.in_pass left.item) false) (is_due keys own left.item) left.passes in
-        let due = and_parts (option_map_or (λ (key : Key). is_some key.destructor) (key_at keys left.item) false) (not (nat_eq (value_at left.item own) 0)) parts.1 in
-        ap (is_due keys own) (place_of_left (key_at keys left.item) refl due.0) ∙ parts.1
-
-    -- and the thread has a value of it that is not NULL
+    -- the thread has a value of it that is not NULL
     pub left_has_value : nat_eq (value_at (key_place k) own) 0 ≡ false
     left_has_value =
         let parts = and_parts (option_map_or (λ in_pass. in_pass) (slice_get own.in_pass left.item) false) _ left.passes in

@@ -57,7 +57,7 @@ module _ (w : World) (passes : ℕ) (body : List Stmt) (shared : SharedState) (t
 
 module _ (script : Script) (config : Config) (w : World) (p : Process) (t : Thread) (choice : Alt) (offered : offers (choices_of script config w p t) choice ≡ true) where
   abbrev environment : Environment
-  environment = environment_of config.slots w p t.id
+  environment = environment_of config w p t.id
 
   abbrev o : Transition
   o = transition_by script config w p t choice

@@ -44,8 +44,8 @@ module _ (script : Script) (config : Config) where
 
   -- the transition of a step, by case
   pub case_of_step : (w : World) (p : Process) (e : Entry) (t : Thread) → Moves script config w p e t
-      → TransitionCase config.passes (body_at script t.frames) p.shared t (environment_of config.slots w p t.id) true (next_of script t.frames) t.status (transition_by script config w p t e.alt)
-  case_of_step w p e t moves = case_of config.passes (body_at script t.frames) p.shared t (environment_of config.slots w p t.id) true e.alt (next_of script t.frames) t.status (λ known. moves.offered)
+      → TransitionCase config.passes (body_at script t.frames) p.shared t (environment_of config w p t.id) true (next_of script t.frames) t.status (transition_by script config w p t e.alt)
+  case_of_step w p e t moves = case_of config.passes (body_at script t.frames) p.shared t (environment_of config w p t.id) true e.alt (next_of script t.frames) t.status (λ known. moves.offered)
 
   module _ (before : List Entry) (r : Run) (is : run script config before ≡ Some r) (e : Entry) (p : Process) (t : Thread) (taken : IsTaken script config r.world e p t) where
     abbrev o : Transition

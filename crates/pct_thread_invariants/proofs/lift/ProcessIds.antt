@@ -1,7 +1,7 @@
 -- The pids of processes and the ids of their threads after every run: the pids are numbered in the order in which the processes were made,
 -- the ids on each slot, and no two are the same.
 use Rattle.pct_names.proofs.Names.{◌+◌, ◌++◌, ◌<◌, [], after_transition, All-map, and_parts, ap, arith, Bool, changed, child_of, cond}
-use Rattle.pct_names.proofs.Names.{Config, creates, Entry, false, first_process, free_ids, get_or, has_ended, HasProcessNumbers, inl, inr}
+use Rattle.pct_names.proofs.Names.{Config, Entry, false, first_process, free_ids, get_or, has_ended, HasProcessNumbers, inl, inr}
 use Rattle.pct_names.proofs.Names.{is_live_process, length, length-map, List, list_any, list_any_none, made_process, map, map-append}
 use Rattle.pct_names.proofs.Names.{mul-zero, nat_eq, NewThread, none-some, not, opening, Option, other_process_after, position_or_len}
 use Rattle.pct_names.proofs.Names.{Process, process_moved, refl, same_Some, Script, slice_get, slice_get-get_or, slice_get-map}

@@ -132,10 +132,10 @@ module _ (passes : ℕ) (body : List Stmt) (shared : SharedState) (t : Thread) (
 
 -- how the thread of a transition stands
 pub stands : (script : Script) (config : Config) (w : World) (p : Process) (t : Thread) (reported : ThreadSummary) (choice : Alt) → offers (choices_of script config w p t) choice ≡ true → (fits : FitsAny script config.passes t reported)
-    → Stands config.passes (body_at script t.frames) p.shared t (environment_of config.slots w p t.id) script t.reason t.handlers reported fits.agrees.disabled t.status (transition_by script config w p t choice)
+    → Stands config.passes (body_at script t.frames) p.shared t (environment_of config w p t.id) script t.reason t.handlers reported fits.agrees.disabled t.status (transition_by script config w p t choice)
 stands script config w p t reported choice offered fits =
-    any_stands config.passes (body_at script t.frames) p.shared t (environment_of config.slots w p t.id) script t.reason t.handlers reported fits.agrees.disabled t.status t.frames fits.by_status (is_placed script t.frames)
-    (case_of config.passes (body_at script t.frames) p.shared t (environment_of config.slots w p t.id) true choice (next_of script t.frames) t.status (λ known. offered))
+    any_stands config.passes (body_at script t.frames) p.shared t (environment_of config w p t.id) script t.reason t.handlers reported fits.agrees.disabled t.status t.frames fits.by_status (is_placed script t.frames)
+    (case_of config.passes (body_at script t.frames) p.shared t (environment_of config w p t.id) true choice (next_of script t.frames) t.status (λ known. offered))
 
 -- a thread that has ended goes on to exit its process
 pub goes_on : (script : Script) (config : Config) (w : World) (p : Process) (t : Thread) (reported : ThreadSummary) (choice : Alt) → offers (choices_of script config w p t) choice ≡ true → FitsAny script config.passes t reported → t.ended ≡ true → GoesOn t.status (transition_by script config w p t choice)

@@ -6,7 +6,6 @@ use Rattle.pct_names.proofs.Names.{subst, suc, sym, Thread, thread_at, true, val
 use Rattle.pct_names.proofs.Names.{◌≤◌}
 use Rattle.std.proofs.Common.{eq-eqb}
 use Rattle.pct_model.specs.declared.event.What.TheVariants as what
-use Rattle.pct_model.specs.declared.state.FrameKind.TheVariants as kind
 use Rattle.pct_model.specs.declared.state.Reason.TheVariants as reason
 use Rattle.pct_model.specs.declared.state.Cause.TheVariants as cause
 use Rattle.pct_model.specs.declared.state.Status.TheVariants as status

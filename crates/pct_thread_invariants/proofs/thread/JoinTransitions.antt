@@ -12,8 +12,7 @@ use Rattle.pct_model.specs.declared.transition.OwnAction.TheVariants as own_acti
 use Rattle.pct_transition_cases.proofs.CaseOfTransition.{case_of}
 use Rattle.pct_transition_cases.proofs.OfferedChoices.{offered_alive, offered_of}
 use Rattle.pct_transition_cases.proofs.TransitionCases.{TransitionCase, rests, thread_made, join_begun, join_ended, thread_detached}
-use Rattle.pct_transition_cases.proofs.TransitionCases.{request_sent, canceled_in_join, fork_handler_called}
-use Rattle.pct_thread_invariants.proofs.lift.HandlerEvents.{of_each_phase}
+use Rattle.pct_transition_cases.proofs.TransitionCases.{request_sent, canceled_in_join}
 
 -- ---- actions and events that name no thread
 
@@ -83,8 +82,8 @@ pub data Kind (tid : ℕ) (threads : List Thread) (s : Status) : Transition → 
 
 -- ---- the table
 
-module _ (slots : ℕ) (w : World) (p : Process) (passes : ℕ) (body : List Stmt) (shared : SharedState) (t : Thread) where
-  case_kind : {next : NextStatement} {s : Status} {o : Transition} → TransitionCase passes body shared t (environment_of slots w p t.id) false next s o → Kind t.id p.threads s o
+module _ (config : Config) (w : World) (p : Process) (passes : ℕ) (body : List Stmt) (shared : SharedState) (t : Thread) where
+  case_kind : {next : NextStatement} {s : Status} {o : Transition} → TransitionCase passes body shared t (environment_of config w p t.id) false next s o → Kind t.id p.threads s o
   unfolding environment_of creates begins_join ends_join detaches requests acts_on_request
   case_kind (rests next s alive) = quiet (record { own = refl; named = λ id. refl }) (λ joins. refl)
   case_kind (thread_made frame result id f v detached new among) = creates_one (suc frame.pc) result id new f (value_of shared.globals frame v) detached refl
@@ -96,15 +95,15 @@ module _ (slots : ℕ) (w : World) (p : Process) (passes : ℕ) (body : List Stm
   case_kind _ = quiet (record { own = refl; named = λ id. refl }) (λ joins. absurd (false≢true joins))
 
 -- the case of each transition of a thread of a process
-pub its_case : (script : Script) (config : Config) (w : World) (p : Process) (t : Thread) (choice : Alt) → TransitionCase config.passes (body_at script t.frames) p.shared t (environment_of config.slots w p t.id) false (next_of script t.frames) t.status (transition_by script config w p t choice)
-its_case script config w p t choice = case_of config.passes (body_at script t.frames) p.shared t (environment_of config.slots w p t.id) false choice (next_of script t.frames) t.status (λ known. absurd (false≢true known))
+pub its_case : (script : Script) (config : Config) (w : World) (p : Process) (t : Thread) (choice : Alt) → TransitionCase config.passes (body_at script t.frames) p.shared t (environment_of config w p t.id) false (next_of script t.frames) t.status (transition_by script config w p t choice)
+its_case script config w p t choice = case_of config.passes (body_at script t.frames) p.shared t (environment_of config w p t.id) false choice (next_of script t.frames) t.status (λ known. absurd (false≢true known))
 
 -- and its kind
 pub kind_of : (script : Script) (config : Config) (w : World) (p : Process) (t : Thread) (choice : Alt) → Kind t.id p.threads t.status (transition_by script config w p t choice)
-kind_of script config w p t choice = case_kind config.slots w p config.passes (body_at script t.frames) p.shared t (its_case script config w p t choice)
+kind_of script config w p t choice = case_kind config w p config.passes (body_at script t.frames) p.shared t (its_case script config w p t choice)
 
 -- ---- a thread that moves
 
 -- a thread that has a choice does not have the status of its end
 pub moves_alive : (script : Script) (config : Config) (w : World) (p : Process) (t : Thread) (choice : Alt) → offers (choices_of script config w p t) choice ≡ true → is_ended_status t.status ≡ false
-moves_alive script config w p t choice offered = offered_alive (offered_of (body_at script t.frames) p.shared t (environment_of config.slots w p t.id) choice (next_of script t.frames) t.status offered)
+moves_alive script config w p t choice offered = offered_alive (offered_of (body_at script t.frames) p.shared t (environment_of config w p t.id) choice (next_of script t.frames) t.status offered)

@@ -6,7 +6,6 @@ use Rattle.pct_names.proofs.Names.{Process, refl, requests, reverse, SharedState
 use Rattle.pct_names.proofs.Names.{thread_with, Transition, true, unblocked, value_of, What, with_id, ◌||◌, ℕ, ◌∙◌, ◌∷◌, ◌≡◌}
 use mathlib.Core.Bool.{or-false}
 use Rattle.std.proofs.Common.{ne_eqb, eqb-true, eq-eqb}
-use Rattle.pct_model.specs.declared.event.What.TheVariants as what
 use Rattle.pct_model.specs.declared.state.Cause.TheVariants as cause
 use Rattle.pct_model.specs.declared.state.Status.TheVariants as status
 use Rattle.pct_model.specs.declared.transition.NamedAction.TheVariants as named_action
@@ -16,7 +15,7 @@ use Rattle.pct_thread_invariants.proofs.lift.KeyedLists.{AreDistinct}
 use Rattle.pct_thread_invariants.proofs.lift.ThreadIds.{ids_of}
 use Rattle.pct_thread_invariants.proofs.lift.ChangedThreads.{either_keeps, flags, moved_flags}
 use Rattle.pct_thread_invariants.proofs.lift.MadeThreads.{HasValidId, with_valid_id}
-use Rattle.pct_thread_invariants.proofs.thread.JoinTransitions.{names_none, Kind, quiet, creates_one, ends, detaches_one, requests_one}
+use Rattle.pct_thread_invariants.proofs.thread.JoinTransitions.{Kind, quiet, ends, detaches_one}
 use Rattle.pct_thread_invariants.proofs.thread.JoinTransitions.{names_detach, releases, names_join}
 use Rattle.pct_transition_cases.proofs.TransitionCases.{TransitionCase, thread_made, join_ended, thread_detached, fork_handler_called}
 

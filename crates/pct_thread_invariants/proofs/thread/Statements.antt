@@ -1,7 +1,7 @@
 -- A running thread at a statement keeps the rule of the thread as it goes on, jumps or returns.
 use Rattle.pct_names.proofs.Names.{◌&&◌, ◌<◌, [], acts, ap, body_of, Bool, Dest, Disable, Enable, false, false≢true, Frame, FrameKind}
 use Rattle.pct_names.proofs.Names.{goes_on, has_begun_to_end, inl, inr, is_handler_kind, is_in_handler, length, List, new_frame, new_thread}
-use Rattle.pct_names.proofs.Names.{None, own_after, Reason, refl, reverse, Script, Some, State, state_if, state_number, statement_at}
+use Rattle.pct_names.proofs.Names.{own_after, Reason, refl, reverse, Script, Some, State, state_if, state_number, statement_at}
 use Rattle.pct_names.proofs.Names.{Status, Stmt, subst, suc, sym, Thread, thread_at, Transition, true, value_of, ◌||◌, ℕ, ◌∙◌, ◌∷◌, ◌≡◌}
 use Rattle.pct_names.proofs.Names.{◌⊎◌}
 use Rattle.pct_model.specs.declared.event.What.TheVariants as what

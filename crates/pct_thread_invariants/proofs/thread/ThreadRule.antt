@@ -1,13 +1,15 @@
 -- What each thread keeps, beside what the events report of it: the facts of Kept.antt, arranged by the status of the thread.
-use Rattle.pct_names.proofs.Names.{◌<◌, [], AllByRecursion, body_of, Bool, Disable, Event, false, Frame, FrameKind, has_begun_to_end}
-use Rattle.pct_names.proofs.Names.{has_left_wait, inl, inr, is_some, length, List, moved, next_of, None, Reason, refl, reverse, Script}
-use Rattle.pct_names.proofs.Names.{Some, State, Status, Thread, Transition, true, What, ◌||◌, ℕ, ◌∷◌, ◌≡◌, ◌⊎◌}
+use Rattle.pct_names.proofs.Names.{◌<◌, [], AllByRecursion, and_parts, body_of, Bool, Cause, Disable, Event, false, Frame, FrameKind}
+use Rattle.pct_names.proofs.Names.{has_begun_to_end, has_left_wait, inl, inr, is_some, is_timed_wait, length, List, moved, next_of}
+use Rattle.pct_names.proofs.Names.{NextStatement, None, Reason, refl, reverse, Script, Some, State, Status, Thread, Transition, true, What}
+use Rattle.pct_names.proofs.Names.{◌||◌, ℕ, ◌∷◌, ◌≡◌, ◌⊎◌}
+use Rattle.pct_model.specs.declared.state.Cause.TheVariants as cause
 use Rattle.pct_model.specs.declared.state.FrameKind.TheVariants as kind
 use Rattle.pct_model.specs.declared.state.Reason.TheVariants as reason
 use Rattle.pct_model.specs.declared.state.Status.TheVariants as status
 use Rattle.std.proofs.lemmas.Bool.{true≢false}
 use Rattle.pct_model.specs.declared.event.What.TheVariants as what
-use Rattle.pct_laws.specs.Kept.{AreOpen, open_functions, is_join, is_call_of, is_at_fork, IsSuspendedAt, IsPlainFunction}
+use Rattle.pct_laws.specs.Kept.{AreOpen, open_functions, is_join, is_call_of, is_at_fork, is_cond_wait_of, IsSuspendedAt, IsPlainFunction}
 use Rattle.pct_laws.specs.ThreadSummary.{ThreadSummary, no_events, with_event, summary_of}
 use Rattle.pct_laws.specs.CancelLaw.{is_running}
 use Rattle.pct_laws.specs.Once.{may_come}
@@ -32,6 +34,13 @@ AllMayCome passes added s = all_may summary (may_come passes) added s ≡ true
 abbrev pub calls_exit_function : List What → Bool
 calls_exit_function (what.ExitRun f ∷ []) = true
 calls_exit_function _ = false
+
+-- ---- condition waits
+
+-- a thread that was unblocked is at its condition wait
+pub in_wait : (next : NextStatement) (c m : ℕ) (why : Cause) → IsSuspendedAt next (status.Reacquire c m why) → IsSuspendedAt next (status.Waiting c m)
+in_wait next c m cause.TimedOut at = (and_parts (is_cond_wait_of c m next) (is_timed_wait next) at).0
+in_wait next c m _ at = at
 
 -- ---- frames
 

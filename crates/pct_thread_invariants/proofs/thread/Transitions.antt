@@ -1,12 +1,10 @@
 -- Each transition of a thread keeps the rule of the thread.
 use Rattle.pct_names.proofs.Names.{[], Alt, and_from, ap, body_at, Bool, choices_of, Config, end_value, Environment, environment_of, false}
-use Rattle.pct_names.proofs.Names.{Frame, inl, inr, is_required, length, List, nat_eq, new_frame, new_thread, NewThread, next_in, next_of}
-use Rattle.pct_names.proofs.Names.{NextStatement, none-some, offers, Operand, Option, own_after, Parent, point_kind, Prepare, Process, refl}
-use Rattle.pct_names.proofs.Names.{same_Some, Script, SharedState, Some, Status, Stmt, subst, sym, Thread, thread_at, Transition}
-use Rattle.pct_names.proofs.Names.{transition_by, true, value_of, What, World, ℕ, ◌∙◌, ◌∷◌, ◌≡◌}
+use Rattle.pct_names.proofs.Names.{false≢true, Frame, inl, inr, is_required, length, List, nat_eq, new_frame, new_thread, NewThread}
+use Rattle.pct_names.proofs.Names.{next_in, next_of, NextStatement, none-some, offers, Operand, Option, own_after, Parent, point_kind}
+use Rattle.pct_names.proofs.Names.{Prepare, Process, refl, same_Some, Script, SharedState, Some, Status, Stmt, subst, sym, Thread}
+use Rattle.pct_names.proofs.Names.{thread_at, Transition, transition_by, true, value_of, What, World, ℕ, ◌∙◌, ◌∷◌, ◌≡◌}
 use Rattle.std.proofs.Common.{eq-eqb}
-use Rattle.pct_model.specs.declared.event.Caller.TheVariants as caller
-use Rattle.pct_model.specs.declared.event.What.TheVariants as what
 use Rattle.pct_model.specs.declared.state.Cause.TheVariants as cause
 use Rattle.pct_model.specs.declared.state.FrameKind.TheVariants as kind
 use Rattle.pct_model.specs.declared.state.Status.TheVariants as status
@@ -15,18 +13,20 @@ use Rattle.pct_laws.specs.Kept.{is_join, is_call_of, is_sem_wait_of, is_at_fork,
 use Rattle.pct_laws.specs.ThreadSummary.{ThreadSummary, no_events}
 use Rattle.pct_transition_cases.proofs.CaseOfTransition.{case_of}
 use Rattle.pct_transition_cases.proofs.OfferedChoices.{deliverable_enabled}
-use Rattle.pct_transition_cases.proofs.PlacedStatements.{IsPlaced, on_top, is_placed, statement_placed}
+use Rattle.pct_transition_cases.proofs.PlacedStatements.{IsPlaced, on_top, is_placed, statement_placed, timed_placed}
 use Rattle.pct_transition_cases.proofs.TransitionCases.{TransitionCase, rests, stopped, jumped, function_called, main_returned}
 use Rattle.pct_transition_cases.proofs.TransitionCases.{start_returned, call_left, handler_left, exit_function_left, thread_made}
 use Rattle.pct_transition_cases.proofs.TransitionCases.{join_begun, join_ended, state_set, point_begun, point_passed, canceled}
 use Rattle.pct_transition_cases.proofs.TransitionCases.{canceled_at_point, canceled_in_join, canceled_in_sem_wait, canceled_in_waitpid}
-use Rattle.pct_transition_cases.proofs.TransitionCases.{wait_begun, wait_ended, canceled_in_wait, canceled_after_wait, signal_handed_on}
-use Rattle.pct_transition_cases.proofs.TransitionCases.{ended_in_wait, sem_wait_begun, sem_taken, fork_begun, fork_handler_called}
-use Rattle.pct_transition_cases.proofs.TransitionCases.{fork_handler_left, process_forked, process_not_forked, fork_failed, fork_returned}
-use Rattle.pct_transition_cases.proofs.TransitionCases.{waitpid_begun, child_reaped, child_lost, handler_pushed, handler_popped}
-use Rattle.pct_transition_cases.proofs.TransitionCases.{handler_called, exit_called, handler_run, destructor_called, pass_begun}
-use Rattle.pct_transition_cases.proofs.TransitionCases.{thread_ended, thread_ended_with_keys, last_ended, last_ended_with_keys}
-use Rattle.pct_transition_cases.proofs.TransitionCases.{process_exited, process_ended_now, exit_function_called, process_ended}
+use Rattle.pct_transition_cases.proofs.TransitionCases.{wait_begun, timed_wait_begun, wait_ended, timed_wait_ended, wait_expired}
+use Rattle.pct_transition_cases.proofs.TransitionCases.{wait_timed_out, canceled_in_wait, canceled_after_wait, signal_handed_on}
+use Rattle.pct_transition_cases.proofs.TransitionCases.{ended_in_wait, sem_wait_begun, sem_taken, timed_sem_wait_begun, timed_sem_taken}
+use Rattle.pct_transition_cases.proofs.TransitionCases.{sem_wait_timed_out, fork_begun, fork_handler_called, fork_handler_left}
+use Rattle.pct_transition_cases.proofs.TransitionCases.{process_forked, process_not_forked, fork_failed, fork_returned, waitpid_begun}
+use Rattle.pct_transition_cases.proofs.TransitionCases.{child_reaped, child_lost, handler_pushed, handler_popped, handler_called}
+use Rattle.pct_transition_cases.proofs.TransitionCases.{exit_called, handler_run, destructor_called, pass_begun, thread_ended}
+use Rattle.pct_transition_cases.proofs.TransitionCases.{thread_ended_with_keys, last_ended, last_ended_with_keys, process_exited}
+use Rattle.pct_transition_cases.proofs.TransitionCases.{process_ended_now, exit_function_called, process_ended}
 use Rattle.pct_thread_invariants.proofs.StaticPushes.{PushesMatch}
 use Rattle.pct_thread_invariants.proofs.lift.HandlerEvents.{of_each_phase}
 use Rattle.pct_thread_invariants.proofs.lift.ThreadsAfter.{created_thread}
@@ -35,7 +35,7 @@ use Rattle.pct_thread_invariants.proofs.keys.LeftKeys.{left_in_pass, destructor_
 use Rattle.pct_thread_invariants.proofs.exits.PlainFunctions.{plain_below, plain_next}
 use Rattle.pct_thread_invariants.proofs.exits.RegisteredFunctions.{ArePlain, RegistersPlain, next_plain}
 use Rattle.pct_thread_invariants.proofs.exits.ExitSteps.{exit_function_keeps, exit_step_keeps}
-use Rattle.pct_thread_invariants.proofs.thread.ThreadRule.{ByAnyStatus, Fits, FitsAny, FitsIf, in_any, KeepsBy, Keeps, KeepsAny}
+use Rattle.pct_thread_invariants.proofs.thread.ThreadRule.{ByAnyStatus, Fits, FitsAny, FitsIf, in_any, in_wait, KeepsBy, Keeps, KeepsAny}
 use Rattle.pct_thread_invariants.proofs.thread.ThreadRule.{calls_exit_function}
 use Rattle.pct_thread_invariants.proofs.thread.NamedFunctions.{NamesFunctions}
 use Rattle.pct_thread_invariants.proofs.thread.GoingOn.{by_handlers}
@@ -94,14 +94,28 @@ module _ (script : Script) (passes : ℕ) (matches : PushesMatch script) (names 
       record { own = suspends script passes t status.Running (frame ∷ below) reported rule rule.by_status (status.Waiting c m) (rule.by_status, called); lawful = refl }
   case_keeps (on_top frame below s at) (wait_ended _ cond mutex c m why returns free) rule =
       next_keeps script passes matches t frame below reported (awake script passes t (status.Reacquire c m why) (frame ∷ below) reported rule rule.by_status.0) (status.Reacquire c m why) (statement.CondWait cond mutex) at refl refl refl refl refl refl
+  case_keeps (on_top frame below s at) (timed_wait_begun _ result c m owned one unasked) rule =
+      let called : is_cond_wait_of c m (next_of script (frame ∷ below)) ≡ true = ap (λ (x : Option Stmt). is_cond_wait_of c m (next_in frame x)) at ∙ and_from (nat_eq c c) (nat_eq m m) (eq-eqb c c refl) (eq-eqb m m refl) in
+      record { own = suspends script passes t status.Running (frame ∷ below) reported rule rule.by_status (status.Waiting c m) (rule.by_status, called); lawful = refl }
+  case_keeps (on_top frame below s at) (timed_wait_ended _ result cond mutex c m why returns free) rule =
+      next_keeps script passes matches t frame below reported (awake script passes t (status.Reacquire c m why) (frame ∷ below) reported rule rule.by_status.0) (status.Reacquire c m why) (statement.CondTimedWait result cond mutex) at refl refl refl refl refl refl
+  case_keeps {frames} place (wait_expired next c m timed) rule =
+      record { own = suspends script passes t (status.Waiting c m) frames reported rule rule.by_status.0 (status.Reacquire c m cause.TimedOut) (rule.by_status.0, and_from _ _ rule.by_status.1 (timed_placed place (timed refl)), λ leaves. absurd (false≢true leaves)); lawful = refl }
+  case_keeps (on_top frame below s at) (wait_timed_out _ result cond mutex c m free) rule =
+      next_keeps script passes matches t frame below reported (awake script passes t (status.Reacquire c m cause.TimedOut) (frame ∷ below) reported rule rule.by_status.0) (status.Reacquire c m cause.TimedOut) (statement.CondTimedWait result cond mutex) at refl refl refl refl refl refl
   case_keeps {frames} place (canceled_in_wait next c m delivered) rule = record { own = leave_fits script passes t (status.Waiting c m) frames reported rule rule.by_status.0 c m rule.by_status.1 (deliverable_enabled t.state t.pending (delivered refl)); lawful = refl }
-  case_keeps {frames} place (canceled_after_wait next c m why returns delivered) rule = record { own = leave_fits script passes t (status.Reacquire c m why) frames reported rule rule.by_status.0 c m rule.by_status.1 (deliverable_enabled t.state t.pending (delivered refl)); lawful = refl }
+  case_keeps {frames} place (canceled_after_wait next c m why returns delivered) rule = record { own = leave_fits script passes t (status.Reacquire c m why) frames reported rule rule.by_status.0 c m (in_wait (next_of script frames) c m why rule.by_status.1) (deliverable_enabled t.state t.pending (delivered refl)); lawful = refl }
   case_keeps {frames} place (signal_handed_on next c m u delivered waits) rule = record { own = leave_fits script passes t (status.Reacquire c m cause.Signalled) frames reported rule rule.by_status.0 c m rule.by_status.1 (deliverable_enabled t.state t.pending (delivered refl)); lawful = refl }
   case_keeps {frames} place (ended_in_wait next c m free) rule = end_in_wait_keeps script passes t (status.Reacquire c m cause.Canceled) frames reported rule rule.by_status.0 c m (rule.by_status.2 refl)
   -- semaphores
   case_keeps (on_top frame below s at) (sem_wait_begun _ sem unasked) rule = record { own = suspends script passes t status.Running (frame ∷ below) reported rule rule.by_status (status.InSem sem) (rule.by_status, ap (λ (x : Option Stmt). is_sem_wait_of sem (next_in frame x)) at ∙ eq-eqb sem sem refl); lawful = refl }
   case_keeps (on_top frame below s at) (sem_taken _ n sem some) rule =
       next_keeps script passes matches t frame below reported (awake script passes t (status.InSem sem) (frame ∷ below) reported rule rule.by_status.0) (status.InSem sem) (statement.SemWait n) at refl refl refl refl refl refl
+  case_keeps (on_top frame below s at) (timed_sem_wait_begun _ result sem unasked) rule = record { own = suspends script passes t status.Running (frame ∷ below) reported rule rule.by_status (status.InSem sem) (rule.by_status, ap (λ (x : Option Stmt). is_sem_wait_of sem (next_in frame x)) at ∙ eq-eqb sem sem refl); lawful = refl }
+  case_keeps (on_top frame below s at) (timed_sem_taken _ result n sem some) rule =
+      next_keeps script passes matches t frame below reported (awake script passes t (status.InSem sem) (frame ∷ below) reported rule rule.by_status.0) (status.InSem sem) (statement.SemTimedWait result n) at refl refl refl refl refl refl
+  case_keeps (on_top frame below s at) (sem_wait_timed_out _ result n sem none) rule =
+      next_keeps script passes matches t frame below reported (awake script passes t (status.InSem sem) (frame ∷ below) reported rule rule.by_status.0) (status.InSem sem) (statement.SemTimedWait result n) at refl refl refl refl refl refl
   -- fork and its handlers, and waitpid
   case_keeps (on_top frame below s at) (fork_begun _ result child alive) rule =
       let count : ℕ = length shared.fork_handlers in
@@ -172,12 +186,12 @@ module _ (script : Script) (passes : ℕ) (matches : PushesMatch script) (names 
 pub transition_keeps : (script : Script) → PushesMatch script → NamesFunctions script → (config : Config) (w : World) (p : Process) (t : Thread) (reported : ThreadSummary) (choice : Alt) → KeysKept script p.shared.keys → RegistersPlain script p.shared → offers (choices_of script config w p t) choice ≡ true
     → FitsAny script config.passes t reported → KeepsAny script config.passes t reported (transition_by script config w p t choice)
 transition_keeps script matches names config w p t reported choice kept registered offered rule =
-    let environment : Environment = environment_of config.slots w p t.id in
+    let environment : Environment = environment_of config w p t.id in
     rule_keeps script config.passes matches names p.shared kept registered t environment reported t.status t.frames (is_placed script t.frames) (case_of config.passes (body_at script t.frames) p.shared t environment true choice (next_of script t.frames) t.status (λ known. offered)) rule rule.by_status
 
 -- the thread that it creates
 pub created_fits : (script : Script) → PushesMatch script → NamesFunctions script → (config : Config) (w : World) (p : Process) (t : Thread) (choice : Alt) → KeysKept script p.shared.keys → RegistersPlain script p.shared → offers (choices_of script config w p t) choice ≡ true
     → (new : NewThread) → (transition_by script config w p t choice).created ≡ Some new → FitsAny script config.passes (created_thread new) no_events
 created_fits script matches names config w p t choice kept registered offered =
-    let environment : Environment = environment_of config.slots w p t.id in
+    let environment : Environment = environment_of config w p t.id in
     case_created script config.passes matches names p.shared kept registered t environment no_events (is_placed script t.frames) (case_of config.passes (body_at script t.frames) p.shared t environment true choice (next_of script t.frames) t.status (λ known. offered))

@@ -14,7 +14,7 @@ pub returns-in-Choices : goal.returns-in-Choices
 returns-in-Choices c = λ words input asks has of_text.
     let runs = c.show_state.ensures.runs in
     let followed = c.in_ok-engine-in-Choices in
-    state-answered words input c.args.script c.in-Ok.config c.in-Ok.entries has.has_script (rw has.rest at c.in-Ok.ensures.read) followed.engine followed.illegal runs.0 c.in_ok-lines.lines c.args.view c.show_state.result
+    state-answered words input c.args.script c.in-Ok.config c.in-Ok.entries has.has_script (rw (c.format_of.ensures, has.rest) at c.in-Ok.ensures.read) followed.engine followed.illegal runs.0 c.in_ok-lines.lines c.args.view c.show_state.result
     (rw c.as_slice.ensures at followed.ensures) runs.1
     (c.in_ok-lines.ensures ∙ ap statement_lines of_text)
     c.in-Choices.is
@@ -25,7 +25,7 @@ pub returns-in-Ok : goal.returns-in-Ok
 returns-in-Ok c = λ words input asks has of_text.
     let steps = c.in_ok-steps-in-Steps in
     let shown = steps.steps in
-    steps-answered words input c.args.script c.in-Ok.config c.in-Ok.entries has.has_script (rw has.rest at c.in-Ok.ensures.read) c.in-Steps.form shown.illegal c.in_ok-lines.lines (text_in shown.text) shown.verdict c.in_form.result
+    steps-answered words input c.args.script c.in-Ok.config c.in-Ok.entries has.has_script (rw (c.format_of.ensures, has.rest) at c.in-Ok.ensures.read) c.in-Steps.form shown.illegal c.in_ok-lines.lines (text_in shown.text) shown.verdict c.in_form.result
     (subst (λ (view : View). AsksFor words (inspection.Show view)) c.in-Steps.is asks)
     (c.in_ok-lines.ensures ∙ ap statement_lines of_text)
     (subst (λ (entries : List Entry). ShowsTrace c.in_ok-lines.lines c.args.script c.in-Ok.config entries shown.illegal (text_in shown.text) shown.verdict) c.as_slice-in-Steps.ensures
@@ -35,4 +35,4 @@ returns-in-Ok c = λ words input asks has of_text.
 pub returns-in-Err-Refused : goal.returns-in-Err-Refused
 returns-in-Err-Refused c = λ words input asks has of_text.
     rw c.in-Err-Refused.field-0-is
-    (prefix-answer words input (inspection.Show c.args.view) c.args.script c.in-Err-Refused.line c.in-Err-Refused.why asks has.has_script (rw (c.in-Err-Refused.field-0-is, has.rest) at c.in-Err-Refused.ensures.read))
+    (prefix-answer words input (inspection.Show c.args.view) c.args.script c.in-Err-Refused.line c.in-Err-Refused.why asks has.has_script (rw (c.in-Err-Refused.field-0-is, c.format_of.ensures, has.rest) at c.in-Err-Refused.ensures.read))

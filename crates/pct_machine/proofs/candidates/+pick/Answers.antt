@@ -1,5 +1,5 @@
-use Rattle.pct_names.proofs.Names.{ap, arith, entry_for, length, List, nil_from_length, None, option_and_then, refl, Some, subst, suc, sym}
-use Rattle.pct_names.proofs.Names.{Thread, ◌∙◌}
+use Rattle.pct_names.proofs.Names.{ap, arith, entry_for, has_timeouts, length, List, nil_from_length, None, option_and_then, refl, Some}
+use Rattle.pct_names.proofs.Names.{subst, suc, sym, Thread, ◌∙◌}
 use Rattle.pct_engine_laws.specs.Seen.{SeenProcess}
 use Rattle.pct_engine_laws.specs.SeenSteps.{candidate_in}
 use Rattle.pct_process.specs.ProcessViews.{thread_on_slot}
@@ -15,12 +15,12 @@ use Rattle.pct_machine.proofs.candidates.+pick.Goals as goal
 pub returns-then-before-eq0-clause-value : goal.returns-then-before-eq0-clause-value
 returns-then-before-eq0-clause-value t c =
     none_here c.args.before c.args.draw c.if-before-eq0.true
-    ∙ ap (λ (ps : List SeenProcess). pick_after c.args.before c.args.draw (candidates_among c.args.program.now.script (families c.args.processes.now) ps)) (sym (nil_from_length c.args.places.now c.in_default.ensures.cases))
+    ∙ ap (λ (ps : List SeenProcess). pick_after c.args.before c.args.draw (candidates_among c.args.program.now.script (has_timeouts c.args.program.now.config.format) (families c.args.processes.now) ps)) (sym (nil_from_length c.args.places.now c.in_default.ensures.cases))
 
 pub returns-in_default-clause-value : goal.returns-in_default-clause-value
 returns-in_default-clause-value t c =
     one_before c.args.before c.args.draw (omega (arith, c.if-before-eq0.false))
-    ∙ ap (λ (ps : List SeenProcess). pick_after c.args.before c.args.draw (candidates_among c.args.program.now.script (families c.args.processes.now) ps)) (sym (nil_from_length c.args.places.now c.in_default.ensures.cases))
+    ∙ ap (λ (ps : List SeenProcess). pick_after c.args.before c.args.draw (candidates_among c.args.program.now.script (has_timeouts c.args.program.now.config.format) (families c.args.processes.now) ps)) (sym (nil_from_length c.args.places.now c.in_default.ensures.cases))
 
 pub pick-requires : goal.pick-requires
 pick-requires t c =
@@ -30,18 +30,20 @@ pick-requires t c =
 pub returns-in-Here-clause-value : goal.returns-in-Here-clause-value
 returns-in-Here-clause-value t c =
     let script = c.args.program.now.script in
+    let timeouts = has_timeouts c.args.program.now.config.format in
     let seen_by = families c.args.processes.now in
     let p : SeenProcess = c.in-Some.place.now in
-    later c.args.before c.len.result c.args.draw (candidates_of script (seen_by p.pid) p) (candidates_among script seen_by c.in-Some.rest.now) (c.len.ensures.value ∙ count_is script (seen_by p.pid) p c.ready-ready.result c.ready-ready.ensures) c.in-Here.entry c.in-Here.ensures.value
-    ∙ ap (λ (ps : List SeenProcess). pick_after c.args.before c.args.draw (candidates_among script seen_by ps)) (sym c.in-Some.ensures.cases.0)
+    later c.args.before c.len.result c.args.draw (candidates_of script timeouts (seen_by p.pid) p) (candidates_among script timeouts seen_by c.in-Some.rest.now) (c.len.ensures.value ∙ count_is script timeouts (seen_by p.pid) p c.ready-ready.result c.ready-ready.ensures) c.in-Here.entry c.in-Here.ensures.value
+    ∙ ap (λ (ps : List SeenProcess). pick_after c.args.before c.args.draw (candidates_among script timeouts seen_by ps)) (sym c.in-Some.ensures.cases.0)
 
 pub returns-then-index-before-clause-value : goal.returns-then-index-before-clause-value
 returns-then-index-before-clause-value t c =
     let script = c.args.program.now.script in
+    let timeouts = has_timeouts c.args.program.now.config.format in
     let seen_by = families c.args.processes.now in
     let p : SeenProcess = c.in-Some.place.now in
-    still_before c.args.before c.len.result c.args.draw (candidates_of script (seen_by p.pid) p) (candidates_among script seen_by c.in-Some.rest.now) (c.len.ensures.value ∙ count_is script (seen_by p.pid) p c.ready-ready.result c.ready-ready.ensures) c.in-Before.index c.in-Before.ensures.value c.if-index-before.true
-    ∙ ap (λ (ps : List SeenProcess). pick_after c.args.before c.args.draw (candidates_among script seen_by ps)) (sym c.in-Some.ensures.cases.0)
+    still_before c.args.before c.len.result c.args.draw (candidates_of script timeouts (seen_by p.pid) p) (candidates_among script timeouts seen_by c.in-Some.rest.now) (c.len.ensures.value ∙ count_is script timeouts (seen_by p.pid) p c.ready-ready.result c.ready-ready.ensures) c.in-Before.index c.in-Before.ensures.value c.if-index-before.true
+    ∙ ap (λ (ps : List SeenProcess). pick_after c.args.before c.args.draw (candidates_among script timeouts seen_by ps)) (sym c.in-Some.ensures.cases.0)
 
 pub entry_on-requires-clause-can : goal.entry_on-requires-clause-can
 entry_on-requires-clause-can t c =
@@ -50,33 +52,36 @@ entry_on-requires-clause-can t c =
 pub entry_on-requires-clause-held : goal.entry_on-requires-clause-held
 entry_on-requires-clause-held t c =
     let script = c.args.program.now.script in
+    let timeouts = has_timeouts c.args.program.now.config.format in
     let seen_by = families c.args.processes.now in
     let p : SeenProcess = c.in-Some.place.now in
-    slot_held script (seen_by p.pid) p c.ready-ready.result c.ready-ready.ensures _ (Some c.in-Some-nth.slot) c.in-Some-nth.ensures.value
+    slot_held script timeouts (seen_by p.pid) p c.ready-ready.result c.ready-ready.ensures _ (Some c.in-Some-nth.slot) c.in-Some-nth.ensures.value
 
 pub returns-in-Some-nth-clause-value : goal.returns-in-Some-nth-clause-value
 returns-in-Some-nth-clause-value t c =
     let script = c.args.program.now.script in
+    let timeouts = has_timeouts c.args.program.now.config.format in
     let seen_by = families c.args.processes.now in
     let draw = c.args.draw in
     let p : SeenProcess = c.in-Some.place.now in
-    let cs = candidates_of script (seen_by p.pid) p in
-    let here = one_of_these c.args.before c.len.result draw cs (candidates_among script seen_by c.in-Some.rest.now) (c.len.ensures.value ∙ count_is script (seen_by p.pid) p c.ready-ready.result c.ready-ready.ensures) c.in-Before.index c.in-Before.ensures.value c.if-index-before.false in
-    let u = thread_of (thread_on_slot p.slots c.in-Some-nth.slot) (slot_held script (seen_by p.pid) p c.ready-ready.result c.ready-ready.ensures _ (Some c.in-Some-nth.slot) c.in-Some-nth.ensures.value) in
+    let cs = candidates_of script timeouts (seen_by p.pid) p in
+    let here = one_of_these c.args.before c.len.result draw cs (candidates_among script timeouts seen_by c.in-Some.rest.now) (c.len.ensures.value ∙ count_is script timeouts (seen_by p.pid) p c.ready-ready.result c.ready-ready.ensures) c.in-Before.index c.in-Before.ensures.value c.if-index-before.false in
+    let u = thread_of (thread_on_slot p.slots c.in-Some-nth.slot) (slot_held script timeouts (seen_by p.pid) p c.ready-ready.result c.ready-ready.ensures _ (Some c.in-Some-nth.slot) c.in-Some-nth.ensures.value) in
     ap Here (
     c.entry_on.ensures.value u.0 u.1
-    ∙ ap (option_and_then (λ (x : Thread). entry_for draw.worker draw.choice (candidate_in script (length p.slots) (seen_by p.pid) p x))) (sym u.1)
-    ∙ sym (candidate_at script (seen_by p.pid) p c.ready-ready.result c.ready-ready.ensures (entry_for draw.worker draw.choice) _ (Some c.in-Some-nth.slot) c.in-Some-nth.ensures.value))
+    ∙ ap (option_and_then (λ (x : Thread). entry_for draw.worker draw.choice (candidate_in script timeouts (length p.slots) (seen_by p.pid) p x))) (sym u.1)
+    ∙ sym (candidate_at script timeouts (seen_by p.pid) p c.ready-ready.result c.ready-ready.ensures (entry_for draw.worker draw.choice) _ (Some c.in-Some-nth.slot) c.in-Some-nth.ensures.value))
     ∙ sym here.1
-    ∙ ap (λ (ps : List SeenProcess). pick_after c.args.before draw (candidates_among script seen_by ps)) (sym c.in-Some.ensures.cases.0)
+    ∙ ap (λ (ps : List SeenProcess). pick_after c.args.before draw (candidates_among script timeouts seen_by ps)) (sym c.in-Some.ensures.cases.0)
 
 pub returns-in-None-clause-value : goal.returns-in-None-clause-value
 returns-in-None-clause-value t c =
     let script = c.args.program.now.script in
+    let timeouts = has_timeouts c.args.program.now.config.format in
     let seen_by = families c.args.processes.now in
     let draw = c.args.draw in
     let p : SeenProcess = c.in-Some.place.now in
-    let here = one_of_these c.args.before c.len.result draw (candidates_of script (seen_by p.pid) p) (candidates_among script seen_by c.in-Some.rest.now) (c.len.ensures.value ∙ count_is script (seen_by p.pid) p c.ready-ready.result c.ready-ready.ensures) c.in-Before.index c.in-Before.ensures.value c.if-index-before.false in
-    ap Here (sym (candidate_at script (seen_by p.pid) p c.ready-ready.result c.ready-ready.ensures (entry_for draw.worker draw.choice) _ None c.in-None.ensures.value))
+    let here = one_of_these c.args.before c.len.result draw (candidates_of script timeouts (seen_by p.pid) p) (candidates_among script timeouts seen_by c.in-Some.rest.now) (c.len.ensures.value ∙ count_is script timeouts (seen_by p.pid) p c.ready-ready.result c.ready-ready.ensures) c.in-Before.index c.in-Before.ensures.value c.if-index-before.false in
+    ap Here (sym (candidate_at script timeouts (seen_by p.pid) p c.ready-ready.result c.ready-ready.ensures (entry_for draw.worker draw.choice) _ None c.in-None.ensures.value))
     ∙ sym here.1
-    ∙ ap (λ (ps : List SeenProcess). pick_after c.args.before draw (candidates_among script seen_by ps)) (sym c.in-Some.ensures.cases.0)
+    ∙ ap (λ (ps : List SeenProcess). pick_after c.args.before draw (candidates_among script timeouts seen_by ps)) (sym c.in-Some.ensures.cases.0)

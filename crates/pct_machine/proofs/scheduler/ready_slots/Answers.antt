@@ -1,4 +1,4 @@
-use Rattle.pct_names.proofs.Names.{ap, arith, Bool, false, length, map, sym, Thread, true, ◌∙◌}
+use Rattle.pct_names.proofs.Names.{ap, arith, Bool, false, has_timeouts, length, map, sym, Thread, true, ◌∙◌}
 use Rattle.pct_set.proofs.SlotScans.{scan_begun, scan_there, scan_fewer, scan_more, scan_ended}
 use Rattle.pct_engine_laws.specs.SeenSteps.{is_ready_in}
 use Rattle.pct_process.specs.FamilyViews.{other_processes}
@@ -11,7 +11,7 @@ use Rattle.pct_machine.proofs.scheduler.ready_slots.Goals as goal
 pub loop-slot-init : goal.loop-slot-init
 loop-slot-init c =
     let d = c.args.process.now in
-    let ready : Thread → Bool = is_ready_in c.args.around.program.now.script (length d.slots) (other_processes c.args.around.family) (with_data d) in
+    let ready : Thread → Bool = is_ready_in c.args.around.program.now.script (has_timeouts c.args.around.program.now.config.format) (length d.slots) (other_processes c.args.around.family) (with_data d) in
     scan_begun _ _ c.occupied-rest.result c.new-ready.result c.occupied-rest.ensures c.new-ready.ensures (λ s. some_by ready (thread_on_slot d.slots s))
 
 pub has_choice-requires : goal.has_choice-requires
@@ -25,7 +25,7 @@ loop-slot-smaller c =
 pub loop-slot-preserved : goal.loop-slot-preserved
 loop-slot-preserved c =
     let d = c.args.process.now in
-    let ready : Thread → Bool = is_ready_in c.args.around.program.now.script (length d.slots) (other_processes c.args.around.family) (with_data d) in
+    let ready : Thread → Bool = is_ready_in c.args.around.program.now.script (has_timeouts c.args.around.program.now.config.format) (length d.slots) (other_processes c.args.around.family) (with_data d) in
     let rest = c.loop-slot.rest in
     let slot = c.in-Some.slot in
     let first = c.in-Some.ensures in
@@ -40,6 +40,6 @@ loop-slot-preserved c =
 pub returns : goal.returns
 returns c =
     let d = c.args.process.now in
-    let ready : Thread → Bool = is_ready_in c.args.around.program.now.script (length d.slots) (other_processes c.args.around.family) (with_data d) in
+    let ready : Thread → Bool = is_ready_in c.args.around.program.now.script (has_timeouts c.args.around.program.now.config.format) (length d.slots) (other_processes c.args.around.family) (with_data d) in
     ap (map (thread_on_slot d.slots)) (scan_ended (is_ready_on ready d.slots) _ c.loop-slot.rest c.loop-slot.ready c.loop-slot.invariant c.in_default.ensures.value)
     ∙ ready_on_slots ready d.slots c.slot_count-count.ensures.single (omega (arith, c.slot_count-count.ensures.value, c.slot_count-count.ensures.few))

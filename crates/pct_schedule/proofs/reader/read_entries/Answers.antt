@@ -45,8 +45,8 @@ returns-in_err-entry-clause-read c =
 pub returns-in_err-push-clause-memory : goal.returns-in_err-push-clause-memory
 returns-in_err-push-clause-memory c = λ _.
     let reads = reads_line c.loop-raw.rest.now c.in-Some.raw.now c.strip_cr-line.result.now c.in-Some.after.now c.in-Some.ensures c.strip_cr-line.ensures in
-    first_stays (length c.loop-raw.entries.items) c.args.lines.text.now c.loop-raw.rest.now c.loop-raw.invariant.start c.loop-raw.invariant.memory
-    (first_is_entry c.loop-raw.number c.args.config.budget c.len-in-Some.result _ _ _ c.in_ok-entry.entry reads (sym c.if-begins_with.ensures) c.in_ok-entry.ensures)
+    first_stays c.args.config.format (length c.loop-raw.entries.items) c.args.lines.text.now c.loop-raw.rest.now c.loop-raw.invariant.start c.loop-raw.invariant.memory
+    (first_is_entry c.args.config.format c.loop-raw.number c.args.config.budget c.len-in-Some.result _ _ _ c.in_ok-entry.entry reads (sym c.if-begins_with.ensures) c.in_ok-entry.ensures)
 
 pub loop-raw-preserved : goal.loop-raw-preserved
 loop-raw-preserved c =
@@ -61,8 +61,8 @@ loop-raw-preserved c =
       bound = omega (arith, c.in-Some.ensures.shorter, c.loop-raw.invariant.bound);
       start = λ none. absurd (omega (arith, none, ap length c.in_ok-push.ensures.items, length-append c.loop-raw.entries.items (c.in_ok-entry.entry ∷ [])));
       memory = λ _.
-          first_stays (length c.loop-raw.entries.items) c.args.lines.text.now c.loop-raw.rest.now c.loop-raw.invariant.start c.loop-raw.invariant.memory
-          (first_is_entry c.loop-raw.number c.args.config.budget c.len-in-Some.result _ _ _ c.in_ok-entry.entry reads (sym c.if-begins_with.ensures) c.in_ok-entry.ensures);
+          first_stays c.args.config.format (length c.loop-raw.entries.items) c.args.lines.text.now c.loop-raw.rest.now c.loop-raw.invariant.start c.loop-raw.invariant.memory
+          (first_is_entry c.args.config.format c.loop-raw.number c.args.config.budget c.len-in-Some.result _ _ _ c.in_ok-entry.entry reads (sym c.if-begins_with.ensures) c.in_ok-entry.ensures);
     }
 
 pub returns-in-Required-clause-read : goal.returns-in-Required-clause-read

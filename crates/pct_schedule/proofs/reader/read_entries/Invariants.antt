@@ -6,10 +6,10 @@ use Rattle.pct_schedule.proofs.reader.read_entries.Given as goal
 
 abbrev pub invariant-loop-raw : goal.invariant-loop-raw
 invariant-loop-raw l = record {
-  read : with_config l.config (entries_to l.end l.lines.first l.config.budget 0 (map strip_cr (lines_of l.lines.text.now))) ≡ entries_in_to l.end l.number l.config l.entries.items (lines_of l.rest);
+  read : with_config l.config (entries_to l.end l.lines.first l.config 0 (map strip_cr (lines_of l.lines.text.now))) ≡ entries_in_to l.end l.number l.config l.entries.items (lines_of l.rest);
   bound : l.number + length l.rest ≤ l.lines.first + length l.lines.text.now;
   start : length l.entries.items ≡ 0 → l.rest ≡ l.lines.text.now;
-  memory : 0 < length l.entries.items → entry_is_first (lines_of l.lines.text.now) ≡ true;
+  memory : 0 < length l.entries.items → entry_is_first l.config.format (lines_of l.lines.text.now) ≡ true;
 }
 
 abbrev pub decreases-loop-raw : goal.decreases-loop-raw

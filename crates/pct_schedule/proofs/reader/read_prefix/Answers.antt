@@ -4,7 +4,7 @@ use Rattle.pct_schedule.proofs.reader.read_prefix.Goals as goal
 
 pub returns-then-is_empty-clause-read : goal.returns-then-is_empty-clause-read
 returns-then-is_empty-clause-read c =
-    rw (c.of.ensures, c.new.ensures.items) (prefix_of_none c.args.text.now (sym c.is_empty.ensures ∙ c.if-is_empty.true))
+    rw (c.of.ensures, c.new.ensures.items) (prefix_of_none c.args.format c.args.text.now (sym c.is_empty.ensures ∙ c.if-is_empty.true))
 
 pub returns-clause-read : goal.returns-clause-read
-returns-clause-read c = rw (prefix_of_some c.args.text.now (sym c.is_empty.ensures ∙ c.if-is_empty.false)) c.read_text.ensures.read
+returns-clause-read c = rw (prefix_of_some c.args.format c.args.text.now (sym c.is_empty.ensures ∙ c.if-is_empty.false)) c.read_text.ensures.read

@@ -1,5 +1,5 @@
-use Rattle.pct_names.proofs.Names.{ap, Config, Err, err_from_is_err_and, header_of, is_some, lines_of, List, None, Option, Result, Some}
-use Rattle.pct_names.proofs.Names.{sym, true, ℕ, ◌∙◌, ◌≡◌}
+use Rattle.pct_names.proofs.Names.{ap, Config, Err, err_from_is_err_and, header_of, lines_of, List, None, Option, Result, Some, sym, ℕ, ◌∙◌}
+use Rattle.pct_names.proofs.Names.{◌≡◌}
 use Rattle.pct_schedule.specs.declared.reader.End.{End}
 use Rattle.pct_schedule.specs.Ends.{schedule_to}
 use Rattle.pct_schedule.specs.Memory.{header_line}
@@ -36,8 +36,7 @@ returns-in_err-entries-clause-read c =
 pub returns-in_err-entries-clause-memory : goal.returns-in_err-entries-clause-memory
 returns-in_err-entries-clause-memory c = λ e.
     let p = err_from_is_err_and c.from_residual.result c.from_residual.ensures.1 in
-    let legal : is_some (header_of c.in-Some.line.now) ≡ true = ap is_some (sym c.in-Some-header_of.ensures) in
-    stored_after c.args.text.now c.in-Some.number c.in-Some.line.now (lines_of c.in-Some.after.now) c.in-Some.ensures.found legal (c.in_err-entries.ensures.memory (passed_on c.from_residual.result _ _ _ p.1 p.2 e))
+    stored_after c.args.text.now c.in-Some.number c.in-Some.line.now (lines_of c.in-Some.after.now) c.in-Some-header_of.config c.in-Some.ensures.found (sym c.in-Some-header_of.ensures) (c.in_err-entries.ensures.memory (passed_on c.from_residual.result _ _ _ p.1 p.2 e))
 
 pub returns-clause-read : goal.returns-clause-read
 returns-clause-read c =

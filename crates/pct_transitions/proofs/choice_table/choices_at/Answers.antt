@@ -14,10 +14,10 @@ pub returns-in-Joining-clause-within : goal.returns-in-Joining-clause-within
 returns-in-Joining-clause-within c = c.go_or_act-in-Joining.ensures.within _
 
 pub returns-in-InSem-clause-within : goal.returns-in-InSem-clause-within
-returns-in-InSem-clause-within c = c.go_or_act-in-InSem.ensures.within _
+returns-in-InSem-clause-within c = c.go_expire_or_act.ensures.within _
 
 pub returns-in-Waiting-clause-within : goal.returns-in-Waiting-clause-within
-returns-in-Waiting-clause-within c = c.go_or_act-in-Waiting.ensures.within _
+returns-in-Waiting-clause-within c = c.expire_or_act.ensures.within _
 
 pub returns-in-InWaitPid-clause-within : goal.returns-in-InWaitPid-clause-within
 returns-in-InWaitPid-clause-within c = c.go_or_act-in-InWaitPid.ensures.within _

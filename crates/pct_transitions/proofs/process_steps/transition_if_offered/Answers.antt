@@ -1,5 +1,5 @@
-use Rattle.pct_names.proofs.Names.{acts_or, Alt, ap, body_at, choices_at, false≢true, length, List, next_of, offers, sym, transition_at}
-use Rattle.pct_names.proofs.Names.{◌∙◌}
+use Rattle.pct_names.proofs.Names.{acts_or, Alt, ap, body_at, choices_at, false≢true, has_timeouts, length, List, next_of, offers, sym}
+use Rattle.pct_names.proofs.Names.{transition_at, ◌∙◌}
 use Rattle.pct_engine_laws.specs.SeenSteps.{environment_in}
 use Rattle.pct_process.specs.FamilyViews.{other_processes}
 use Rattle.pct_transitions.specs.Programs.{ProgramValue}
@@ -9,7 +9,7 @@ pub returns-then-not-offers-clause-taken : goal.returns-then-not-offers-clause-t
 returns-then-not-offers-clause-taken c = λ t at.
     let p = c.args.process.now in
     let is = c.new-context.ensures.context t at in
-    let environment = environment_in (length p.slots) (other_processes c.args.around.family) p.slots t.id in
+    let environment = environment_in (has_timeouts c.args.around.program.now.config.format) (length p.slots) (other_processes c.args.around.family) p.slots t.id in
     let choices = c.choices_at.ensures.value p.shared t environment is ∙ (λ i. choices_at (body_at (c.new-context.ensures.program i).script t.frames) p.shared t environment (next_of (c.new-context.ensures.program i).script t.frames) t.status) in
     record {
       offered_is = sym (c.offers.ensures ∙ ap (λ (these : List Alt). offers these c.args.choice) choices) ∙ c.if-not-offers.true;
@@ -20,7 +20,7 @@ pub returns-clause-taken : goal.returns-clause-taken
 returns-clause-taken c = λ t at.
     let p = c.args.process.now in
     let is = c.new-context.ensures.context t at in
-    let environment = environment_in (length p.slots) (other_processes c.args.around.family) p.slots t.id in
+    let environment = environment_in (has_timeouts c.args.around.program.now.config.format) (length p.slots) (other_processes c.args.around.family) p.slots t.id in
     let choices = c.choices_at.ensures.value p.shared t environment is ∙ (λ i. choices_at (body_at (c.new-context.ensures.program i).script t.frames) p.shared t environment (next_of (c.new-context.ensures.program i).script t.frames) t.status) in
     record {
       offered_is = sym (c.offers.ensures ∙ ap (λ (these : List Alt). offers these c.args.choice) choices) ∙ c.if-not-offers.false;

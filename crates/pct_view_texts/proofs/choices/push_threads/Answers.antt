@@ -13,7 +13,7 @@ pub loop-slot-preserved : goal.loop-slot-preserved
 loop-slot-preserved c = λ program family p shown.
     let listing = c.args.listing in
     let text = lines_by listing.source.lines.now listing.source.script.now listing.goes_on in
-    let on = listed_on program.script program.config.slots family p in
+    let on = listed_on program.script program.config family p in
     let slot = c.loop-slot.slot in
     let count = ap (λ (d : ProcessData). length d.slots) shown.state_is in
     let inside : slot < length p.slots = omega (arith, count) in
@@ -27,4 +27,4 @@ returns c = λ program family p shown.
     let count = ap (λ (d : ProcessData). length d.slots) shown.state_is in
     let all : length p.slots ≤ c.loop-slot.slot = omega (arith, count) in
     c.loop-slot.invariant program family p shown
-    ∙ ap (λ (slots : List SeenSlot). text_in c.args.text.now ++ flat_map text (cond (is_some p.ended) [] (flat_map (listed_on program.script program.config.slots family p) slots))) (take_all c.loop-slot.slot p.slots all)
+    ∙ ap (λ (slots : List SeenSlot). text_in c.args.text.now ++ flat_map text (cond (is_some p.ended) [] (flat_map (listed_on program.script program.config family p) slots))) (take_all c.loop-slot.slot p.slots all)

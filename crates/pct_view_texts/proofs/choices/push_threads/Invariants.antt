@@ -11,4 +11,4 @@ use Rattle.pct_view_texts.proofs.choices.push_threads.Given as goal
 abbrev pub invariant-loop-slot : goal.invariant-loop-slot
 invariant-loop-slot l =
     (program : ProgramValue) (family : Family) (p : SeenProcess) → ShowsProcess program family p l.process
-    → text_in l.text ≡ text_in l.initial.text ++ flat_map (lines_by l.listing.source.lines.now l.listing.source.script.now l.listing.goes_on) (if is_some p.ended then [] else flat_map (listed_on program.script program.config.slots family p) (take l.slot p.slots))
+    → text_in l.text ≡ text_in l.initial.text ++ flat_map (lines_by l.listing.source.lines.now l.listing.source.script.now l.listing.goes_on) (if is_some p.ended then [] else flat_map (listed_on program.script program.config family p) (take l.slot p.slots))

@@ -9,6 +9,6 @@ unfolding status_and_wait
 returns c =
     let script = c.args.script.now in
     let thread = c.args.thread.now in
-    rw c.in-Some.is
-    (as_text _ _ _ _ _ (sym (before_wait (status_of_waiting script thread.start.status) script thread.pid c.in-Some.wait))
+    rw (c.in-Some.is, sym c.is_timed_at-timed.ensures)
+    (as_text _ _ _ _ _ (sym (before_wait (status_of_waiting script c.is_timed_at-timed.result thread.start.status) script thread.pid c.in-Some.wait))
     (then_text _ _ _ _ _ _ c.in_ok-push_status_of_waiting.ensures c.push_wait.ensures))

@@ -1,4 +1,4 @@
-use Rattle.pct_names.proofs.Names.{◌+◌, ◌<◌, ap, false, IfSome, is_some, List, list_any, subst, sym, true, ℕ, ◌∙◌, ◌≡◌}
+use Rattle.pct_names.proofs.Names.{◌+◌, ◌<◌, ap, false, has_timeouts, IfSome, is_some, List, list_any, subst, sym, true, ℕ, ◌∙◌, ◌≡◌}
 use Rattle.pct_engine_laws.specs.Seen.{Seen, SeenProcess, family_in}
 use Rattle.pct_machine.specs.Candidates.{pick_after, candidates_among, takes_entry}
 use Rattle.pct_machine.specs.Places.{families, RiseWithin}
@@ -11,7 +11,7 @@ returns-in-Here-clause-value c =
     let program = c.args.program.now in
     let running = subst (λ (v : Seen). is_some v.stop ≡ false) c.self.view_is (sym c.if-is_some.ensures) in
     chosen_is program.script program.config c.args.self.now c.args.draw c.requires running c.in-Here.entry
-    (c.in-Here.ensures.value ∙ ap (λ (ps : List SeenProcess). pick_after 0 c.args.draw (candidates_among program.script (families c.self.inside.processes) ps)) c.as_slice-places.ensures.value ∙ ap (λ (v : Seen). pick_after 0 c.args.draw (candidates_among program.script (family_in v) v.processes)) c.self.view_is)
+    (c.in-Here.ensures.value ∙ ap (λ (ps : List SeenProcess). pick_after 0 c.args.draw (candidates_among program.script (has_timeouts program.config.format) (families c.self.inside.processes) ps)) c.as_slice-places.ensures.value ∙ ap (λ (v : Seen). pick_after 0 c.args.draw (candidates_among program.script (has_timeouts program.config.format) (family_in v) v.processes)) c.self.view_is)
 
 pub returns-in-Here-clause-legal : goal.returns-in-Here-clause-legal
 returns-in-Here-clause-legal c =
@@ -19,7 +19,7 @@ returns-in-Here-clause-legal c =
     let running = subst (λ (v : Seen). is_some v.stop ≡ false) c.self.view_is (sym c.if-is_some.ensures) in
     let rising = subst (λ (v : Seen). RiseWithin 0 v.made v.processes) c.self.view_is c.as_slice-places.ensures.rising in
     chosen_is_legal program.script program.config c.args.self.now c.args.draw c.requires running c.args.self.now.made rising c.in-Here.entry
-    (c.in-Here.ensures.value ∙ ap (λ (ps : List SeenProcess). pick_after 0 c.args.draw (candidates_among program.script (families c.self.inside.processes) ps)) c.as_slice-places.ensures.value ∙ ap (λ (v : Seen). pick_after 0 c.args.draw (candidates_among program.script (family_in v) v.processes)) c.self.view_is)
+    (c.in-Here.ensures.value ∙ ap (λ (ps : List SeenProcess). pick_after 0 c.args.draw (candidates_among program.script (has_timeouts program.config.format) (families c.self.inside.processes) ps)) c.as_slice-places.ensures.value ∙ ap (λ (v : Seen). pick_after 0 c.args.draw (candidates_among program.script (has_timeouts program.config.format) (family_in v) v.processes)) c.self.view_is)
     (subst (λ (v : Seen). IfSome c.in-Here.entry (λ e. list_any (takes_entry program.script program.config (family_in v) e) v.processes ≡ true)) c.self.view_is
     (subst (λ (ps : List SeenProcess). IfSome c.in-Here.entry (λ e. list_any (takes_entry program.script program.config (families c.self.inside.processes) e) ps ≡ true)) c.as_slice-places.ensures.value c.in-Here.ensures.taken))
 
@@ -28,7 +28,7 @@ returns-in-Before-clause-value c =
     let program = c.args.program.now in
     let running = subst (λ (v : Seen). is_some v.stop ≡ false) c.self.view_is (sym c.if-is_some.ensures) in
     absurd (never_before program.script program.config c.args.self.now c.args.draw c.requires running c.in-Before.field-0
-    (c.in-Before.ensures.value ∙ ap (λ (ps : List SeenProcess). pick_after 0 c.args.draw (candidates_among program.script (families c.self.inside.processes) ps)) c.as_slice-places.ensures.value ∙ ap (λ (v : Seen). pick_after 0 c.args.draw (candidates_among program.script (family_in v) v.processes)) c.self.view_is))
+    (c.in-Before.ensures.value ∙ ap (λ (ps : List SeenProcess). pick_after 0 c.args.draw (candidates_among program.script (has_timeouts program.config.format) (families c.self.inside.processes) ps)) c.as_slice-places.ensures.value ∙ ap (λ (v : Seen). pick_after 0 c.args.draw (candidates_among program.script (has_timeouts program.config.format) (family_in v) v.processes)) c.self.view_is))
 
 pub pick-requires-clause-can : goal.pick-requires-clause-can
 pick-requires-clause-can c =

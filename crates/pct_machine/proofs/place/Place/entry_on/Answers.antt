@@ -1,4 +1,4 @@
-use Rattle.pct_names.proofs.Names.{ap, item_at, length, option_map, same_Some, sym, Thread, ◌∙◌}
+use Rattle.pct_names.proofs.Names.{ap, has_timeouts, item_at, length, option_map, same_Some, sym, Thread, ◌∙◌}
 use Rattle.pct_engine_laws.specs.Seen.{SeenProcess}
 use Rattle.pct_engine_laws.specs.SeenSteps.{choices_in}
 use Rattle.pct_process.specs.FamilyViews.{other_processes}
@@ -18,4 +18,4 @@ returns-clause-taken c =
     let same = same_Some t.0.id c.id_on.result (sym (ap (option_map (λ (u : Thread). u.id)) at) ∙ c.id_on.ensures) in
     (λ i. takes_in program.script program.config family (record { worker = c.args.draw.worker; pid = (c.self.view_is i).pid; tid = sym same i; alt = c.in_ok-alt.alt }) p)
     ∙ chosen_is_taken program.script program.config family p c.args.slot c.args.draw.worker c.args.draw.choice t.0 c.requires.can t.1 c.requires.live c.in_ok-alt.alt
-    (sym c.in_ok-alt.was ∙ c.choice_by.ensures t.0 at ∙ ap (λ (q : SeenProcess). item_at (choices_in program.script (length q.slots) family q t.0) c.args.draw.choice) c.self.view_is)
+    (sym c.in_ok-alt.was ∙ c.choice_by.ensures t.0 at ∙ ap (λ (q : SeenProcess). item_at (choices_in program.script (has_timeouts program.config.format) (length q.slots) family q t.0) c.args.draw.choice) c.self.view_is)

@@ -3,4 +3,4 @@ use Rattle.pct_transitions.proofs.EnvironmentRead.{joins_read}
 use Rattle.pct_transitions.proofs.context.Context.another_joins.Goals as goal
 
 pub returns : goal.returns
-returns c = λ others sees. c.is_joined.ensures ∙ joins_read c.args.self.now.position.keys.now c.args.self.now.threads.now c.requires.rows c.args.self.now.position.id _ others sees c.args.id
+returns c = λ others sees. c.is_joined.ensures ∙ joins_read c.args.self.now.position.keys.now c.args.self.now.threads.now c.requires.rows c.args.self.now.position.id _ _ others sees c.args.id

@@ -5,7 +5,7 @@ use Rattle.pct_transitions.proofs.context.Context.free_slots.Goals as goal
 
 pub returns-clause-ids : goal.returns-clause-ids
 returns-clause-ids c = λ others sees.
-    ap (map (next_id_at c.args.self.now.threads.now)) c.free.ensures.value ∙ new_ids_read c.args.self.now.position.keys.now c.args.self.now.threads.now c.requires.rows c.args.self.now.position.id _ others sees c.free.ensures.few
+    ap (map (next_id_at c.args.self.now.threads.now)) c.free.ensures.value ∙ new_ids_read c.args.self.now.position.keys.now c.args.self.now.threads.now c.requires.rows c.args.self.now.position.id _ _ others sees c.free.ensures.few
 
 pub returns-clause-within : goal.returns-clause-within
 returns-clause-within c = subst (λ (free : List ℕ). All (λ s. s < length c.args.self.now.threads.now) free) (sym c.free.ensures.value) (free_within c.args.self.now.threads.now)
