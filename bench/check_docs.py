@@ -213,7 +213,7 @@ def codes(text):
 
 def forms_of(text):
     """The forms of statements and declarations in the tables of a page."""
-    known = known_statements() | {"fn", "global", "mutex", "cond", "sem"}
+    known = known_statements() | {"fn", "global", "mutex", "cond", "sem", "once"}
     cells = [line.split("|")[1] for line in text.splitlines() if line.startswith("| `")]
     return {form for cell in cells for form in re.findall(r"`([^`]+)`", cell) if form.split()[0] in known}
 
@@ -228,7 +228,7 @@ def forms():
     points = [word for line in lines if line.startswith("point ") for word in line.split()[1:]]
     yield "docs/forms.txt: the points of SCRIPT.md", names(" ".join(listed).split()), names(points)
     for _, word, number, *what in [line.split() for line in lines if line.startswith("limit ")]:
-        rows = [row for row in formats.splitlines() if row.startswith("| ") and re.sub("mutexes|condition variables|semaphores", "globals", " ".join(what)) in row]
+        rows = [row for row in formats.splitlines() if row.startswith("| ") and re.sub("mutexes|condition variables|semaphores|once controls", "globals", " ".join(what)) in row]
         limit = rows[0].split("|")[2].split()[0].replace(",", "") if rows else "none"
         yield f"docs/forms.txt: the limit of {word} in FORMATS.md", limit, number
 
@@ -241,7 +241,7 @@ def found():
     yield "docs/forms.txt: the faults that refused_word.awk and mend_word.awk do not name", "none", names({name for name in mends if not quotes(word, name)})
     named = re.findall(r'(?:known|keep)\("([a-z_]+)"', word)
     choices = (ROOT / "scripts/mend_word.awk").read_text().partition("# ---- faults")[2].partition("\n# ---- ")[0]
-    named += [name for name in re.findall(r'"([a-z]+(?:_[a-z]+)+)"', choices) if not name.startswith("pthread_cond_")]
+    named += [name for name in re.findall(r'"([a-z]+(?:_[a-z]+)+)"', choices) if not name.startswith(("pthread_cond_", "pthread_once"))]
     yield "docs/forms.txt: the faults without a mend", "none", names(set(named) - set(mends))
     causes = {name[6:]: words for name, words in table_of_reasons().items() if name.startswith("cause ")}
     yield "docs/reasons.txt: the causes that deadlock.awk and budget.awk do not name", "none", names({name for name in causes if not quotes(run, name)})

@@ -34,7 +34,7 @@ class Thread:
 class Process:
     def __init__(self, pid, parent):
         self.pid, self.parent, self.restricted, self.ended, self.reaped = pid, parent, False, None, False
-        self.globals, self.owners, self.counts, self.threads, self.keys = {}, {}, {}, {}, {}
+        self.globals, self.owners, self.counts, self.onces, self.threads, self.keys = {}, {}, {}, {}, {}, {}
         self.fork_handlers, self.exit_functions, self.exit_value = [], [], None
 
 
@@ -45,6 +45,7 @@ class World:
         first.globals = dict.fromkeys(script.globals, 0)
         first.owners = dict.fromkeys(script.mutexes, 0)
         first.counts = dict(script.sems)
+        first.onces = dict.fromkeys(script.onces, ("fresh",))
         first.threads[1] = Thread(1, Frame(script.functions["main"], 0, "main"), False)
         self.processes = {1: first}
 
@@ -82,9 +83,16 @@ class World:
         thread.frames = [frame] if alone else [frame, *thread.frames]
         thread.status = ("running",)
 
-    def begin_end(self, thread, reason):
+    def begin_end(self, process, thread, reason):
         thread.frames, thread.status, thread.reason = [], ("ending",), reason
         thread.enabled, thread.asynchronous = False, False
+        self.abandon(process, thread)
+
+    def abandon(self, process, thread):
+        """The controls whose init routines the thread leaves without a return of them are fresh again."""
+        for once, state in process.onces.items():
+            if state == ("busy", thread.tid):
+                process.onces[once] = ("fresh",)
 
     def begin_exit(self, process, thread, value):
         thread.frames, thread.status, process.exit_value = [], ("exiting",), value
@@ -104,7 +112,7 @@ class World:
 
     def act(self, process, thread, number):
         if thread.status[0] not in ("waiting", "unblocked"):
-            self.begin_end(thread, "canceled")
+            self.begin_end(process, thread, "canceled")
             return [("ending", "canceled")]
         cond = thread.status[1]
         handed = thread.status[0] == "unblocked" and thread.status[3] == "signal" and self.waiters(process, cond)
@@ -162,7 +170,7 @@ class World:
         _, cond, mutex, why = thread.status
         process.owners[mutex] = thread.tid
         if why == "canceled":
-            self.begin_end(thread, "canceled")
+            self.begin_end(process, thread, "canceled")
             return [("acquire", mutex), ("ending", "canceled", cond, mutex)]
         name = thread.frames[0].function.body[thread.frames[0].pc][0]
         self.returns(process, thread, *self.result_of(thread, TIMED_OUT if why == "time" else 0))
@@ -239,7 +247,7 @@ class World:
     def child_of(self, process, thread, pid, registered):
         child = Process(pid, process.pid)
         child.restricted = not self.is_last(process, thread)
-        for name in ("globals", "owners", "counts", "keys", "fork_handlers", "exit_functions"):
+        for name in ("globals", "owners", "counts", "onces", "keys", "fork_handlers", "exit_functions"):
             setattr(child, name, copy.copy(getattr(process, name)))
         child.threads[thread.tid] = self.replica_of(thread, registered)
         return child
@@ -280,7 +288,7 @@ class World:
         if kind == "main":
             return self.begin_exit(process, thread, value)
         if kind == "start":
-            self.begin_end(thread, value)
+            self.begin_end(process, thread, value)
             return [("ending", "exit", str(value))]
         thread.frames = thread.frames[1:]
         if kind in ("handler", "destructor"):
@@ -289,7 +297,13 @@ class World:
             thread.status = thread.fork
         elif kind == "exit_function":
             thread.status = ("exiting",)
+        elif kind[0] == "routine":
+            return self.leave_routine(process, kind[1])
         return []
+
+    def leave_routine(self, process, once):
+        process.onces[once] = ("done",)
+        return [("once", once, "done")]
 
     def at_emit(self, process, thread, words, number):
         value = self.value(process, thread, words[1])
@@ -361,7 +375,7 @@ class World:
 
     def at_pthread_exit(self, process, thread, words, number):
         value = self.value(process, thread, words[1])
-        self.begin_end(thread, value)
+        self.begin_end(process, thread, value)
         return [("ending", "exit", str(value))]
 
     def at_pthread_testcancel(self, process, thread, words, number):
@@ -448,6 +462,14 @@ class World:
         process.counts[words[1]] = (process.counts[words[1]] + 1) % NUMBER
         self.advance(thread)
         return [("post", words[1])]
+
+    def at_pthread_once(self, process, thread, words, number):
+        self.advance(thread)
+        if process.onces[words[1]] == ("done",):
+            return []
+        process.onces[words[1]] = ("busy", thread.tid)
+        self.call(thread, words[2], 0, ("routine", words[1]))
+        return [("once", words[1], "call")]
 
     def at_pthread_atfork(self, process, thread, words, number):
         if len(process.fork_handlers) >= REGISTRATIONS:

@@ -1,4 +1,4 @@
-"""Six laws of the events of a report: each is a function over the list of the events, oldest first, and gives the place of each event
+"""Seven laws of the events of a report: each is a function over the list of the events, oldest first, and gives the place of each event
 that it refuses, and why. They are written from the sentences of the standard, and share no code with the definitions of the same names
 in crates/pct_laws/specs.
 """
@@ -318,7 +318,36 @@ def process_law(events):
         stopped = event.word in ("undefined", "profile")
 
 
-LAWS = {"RanAll": ran_all, "AfterEnd": after_end, "Calls": calls, "Ends": ends, "CancelLaw": cancel_law, "ProcessLaw": process_law}
+def runner_of(control, past):
+    """The thread that runs an init routine of a control after these events of its process, 0 if one has returned, or None if none has and
+    no thread is in one. A thread that begins to end leaves the routine."""
+    runner = None
+    for event in past:
+        if event.word == "once" and event.words[1] == control:
+            runner = event.tid if event.words[2] == "call" else 0
+        elif event.word == "ending" and event.tid == runner:
+            runner = None
+    return runner
+
+
+def once_law(events):
+    """XSH pthread_once: an init routine is called once, and again only if the thread that called it was canceled in it. It returns in the
+    thread that called it. That pthread_exit in it does what a request does is a choice of this host. A child has the controls of its
+    parent."""
+    for place, event in enumerate(events):
+        if event.word != "once":
+            continue
+        runner = runner_of(event.words[1], process_history(events, event.pid, place))
+        if event.words[2] == "call" and runner is not None:
+            yield place, "an init routine is called while a thread is in one of its control, or after one has returned"
+        if event.words[2] == "done" and runner != event.tid:
+            yield place, "an init routine returns in a thread that is in none of its control"
+
+
+LAWS = {
+    "RanAll": ran_all, "AfterEnd": after_end, "Calls": calls, "Ends": ends, "CancelLaw": cancel_law, "ProcessLaw": process_law,
+    "OnceLaw": once_law,
+}
 
 
 def refused(law, events):

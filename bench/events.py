@@ -45,6 +45,8 @@ call sem_timedwait
 take S
 answer sem_timedwait 4
 post S
+once O call
+once O done
 fork P
 answer fork 1
 call waitpid
@@ -85,7 +87,7 @@ undefined exit_twice
 """.splitlines()
 
 NUMBERS = ("V", "A", "N", "K", "P")
-NAMES = ("F", "M", "C", "S", "NAME")
+NAMES = ("F", "M", "C", "S", "O", "NAME")
 LARGEST = 4294967295
 
 

@@ -4,6 +4,7 @@ The words and numbers are worked out by hand from docs/SCRIPT.md, FORMATS.md, PO
 """
 
 WORKER = "fn w x\nend\n"
+ONCE = "once o\n" + WORKER
 
 # Scripts that are refused: the name, the reason, the line, the script, and the sentence on the word.
 REFUSED = [
@@ -90,7 +91,29 @@ REFUSED = [
     ),
     ("a mutex in another case", "unknown_name", 3, "mutex Lock\nfn main x\npthread_mutex_lock lock\nend\n", "line 1 declares 'Lock'."),
     ("pthread_mutex_trylock", "unknown_word", 3, "mutex m\nfn main x\npthread_mutex_trylock m\nend\n", "It is not in this language.\n", "  Mend: write 'pthread_mutex_lock M'"),
-    ("pthread_once", "unknown_word", 4, WORKER + "fn main x\npthread_once o w\nend\n", "It is planned, and not in this language yet.\n", "  Mend: call the function in main by 'do FN 0'"),
+    ("a once control of C", "unknown_word", 1, "pthread_once_t o = PTHREAD_ONCE_INIT;\n" + WORKER, "A once control has no initializer", "by 'once NAME'.\n"),
+    ("pthread_once as in C", "unknown_word", 5, ONCE + "fn main x\npthread_once(&o, w);\nend\n", "it is 'pthread_once O FN', without brackets", "Mend: write 'pthread_once o w'.\n"),
+    ("pthread_once in another case", "unknown_word", 5, ONCE + "fn main x\npthread_Once o w\nend\n", "It is 'pthread_once O FN', in lower case.\n"),
+    ("a misspelled pthread_once", "unknown_word", 5, ONCE + "fn main x\npthread_onec o w\nend\n", "'pthread_onec' begins no declaration and no statement.\n", "Usual cause:", "Mend: compare the line"),
+    (
+        "once for pthread_once", "word_count", 5, ONCE + "fn main x\nonce o w\nend\n",
+        "Its form is 'once NAME', and 2 words are after 'once'.\n", "Mend: write 'pthread_once o w'. The control is declared outside functions, by 'once o'.\n",
+    ),
+    ("pthread_once without its init routine", "word_count", 5, ONCE + "fn main x\npthread_once o\nend\n", "Its form is 'pthread_once O FN', and 1 word is after", "Mend: write 'pthread_once o init', with"),
+    ("an undeclared once control", "unknown_name", 4, WORKER + "fn main x\npthread_once o w\nend\n", "'o' has to be a once control, and nothing of this name", "Mend: add a line 'once o' outside functions.\n"),
+    (
+        "a mutex where a once control is needed", "unknown_name", 5, "mutex m\n" + WORKER + "fn main x\npthread_once m w\nend\n",
+        "In 'pthread_once O FN' the word 'm' has to be a once control, and it is a mutex, line 1.\n",
+    ),
+    (
+        "a once control where a mutex is needed", "unknown_name", 5, ONCE + "fn main x\npthread_mutex_lock o\nend\n",
+        "In 'pthread_mutex_lock M' the word 'o' has to be a mutex, and it is a once control, line 1.\n",
+    ),
+    (
+        "the init routine before its control", "unknown_name", 5, ONCE + "fn main x\npthread_once w o\nend\n",
+        "the word 'w' has to be a once control, and it is a function, line 2.\n", "Mend: write 'pthread_once o w'.\n",
+    ),
+    ("a once control declared in a function", "misplaced", 2, "fn main x\nonce o\nend\n", "The function 'main' of line 1 is open here", "Mend: move the line out of the function"),
     ("a signal", "unknown_word", 2, "fn main t\npthread_kill t 9\nend\n", "Scripts have no signals"),
     ("an initialized mutex", "unknown_word", 3, "mutex m\nfn main x\npthread_mutex_init m\nend\n", "it is declared outside functions, by 'mutex NAME'"),
     ("a sleep of three seconds", "word_count", 2, "fn main x\nsleep 3\nend\n", "'sleep' is a cancellation point, called by its name alone", "Mend: write 'sleep' alone.\n"),
@@ -132,10 +155,21 @@ REFUSED = [
         "The push of line 2 is open here.",
     ),
     ("a mutex and a variable of one name", "name_twice", 2, "mutex n\nglobal n\nfn main x\nend\n", "'n' is a mutex already, line 1."),
+    ("a once control and a mutex of one name", "name_twice", 2, "once o\nmutex o\nfn main x\nend\n", "'o' is a once control already, line 1."),
+    ("one once control too many", "too_many", 33, "".join(f"once o{n}\n" for n in range(33)) + "fn main x\nend\n", "This is once control 33 of the script, which has at most 32."),
     ("one global too many", "too_many", 33, "".join(f"global g{n}\n" for n in range(33)) + "fn main x\nend\n", "This is global 33 of the script, which has at most 32."),
     (
         "an exit function that calls another", "not_plain", 5, "fn bye x\ndo main 1\nend\nfn main x\natexit - bye\nend\n",
         "'bye' has 'do' in line 2.",
+    ),
+    # The once control stands between the plain function and the next one.
+    (
+        "an exit function that calls an init routine", "not_plain", 8, WORKER + "once o\nfn bye x\npthread_once o w\nend\nfn main x\natexit - bye\nend\n",
+        "'bye' has 'pthread_once' in line 5.\n",
+    ),
+    (
+        "a fork handler with a pause, after a once control", "not_plain", 8, WORKER + "once o\nfn h x\npause\nend\nfn main x\npthread_atfork - w h -\nend\n",
+        "'h' has 'pause' in line 5.\n",
     ),
 ]
 

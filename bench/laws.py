@@ -6,21 +6,21 @@
 PROGRAM is the built program, crates/pct_run/out/pct_run where none is named, and after --inspect crates/pct_inspect/out/pct_inspect
 (./pct build builds both).
 
-Laws of events, in event_laws.py: RanAll, AfterEnd, Calls, Ends, CancelLaw and ProcessLaw, each a function over the list of the events
-of a report, oldest first. Of Calls, Ends and CancelLaw this is the part that is about events; what they say of steps, the events
+Laws of events, in event_laws.py: RanAll, AfterEnd, Calls, Ends, CancelLaw, ProcessLaw and OnceLaw, each a function over the list of the
+events of a report, oldest first. Of Calls, Ends, CancelLaw and OnceLaw this is the part that is about events; what they say of steps, the events
 alone do not show: for instance that `handler F A` comes with a call of F, that a thread ends with no key due or after all
 passes, or that a thread whose cancelability is deferred acts on a request only at a cancellation point. Once, JoinLaw, CondLaw,
 SlotLaw and StatementLaw are not said again here. That the last thread of a process exits it in the step of its end, a part of Ends,
 stands in AfterEnd.
 
-Laws of steps, in state_laws.py: Values, Results, Frames, NewThreads, WakeUps, Registrations and OtherThreads, each a function over a
-step with the states before and after it. derived_states.py derives these from the script and the entries; each event of a report has
+Laws of steps, in state_laws.py: Values, Results, Frames, NewThreads, WakeUps, Registrations, Controls and OtherThreads, each a function
+over a step with the states before and after it. derived_states.py derives these from the script and the entries; each event of a report has
 to be the one that they lead to, and the views `states` and `choices` have to show the same.
 
 - Forms. A line of each form in the table of events of docs/FORMATS.md must be read, and lines that are spoilt must be
   refused.
 - Made lists. Each law of events has lists of which it must refuse one event, and none before it. Other lists must be accepted by
-  all six.
+  all seven.
 - Spoilt runs. Of made runs a line of a view, or an event, is spoilt: the law that is named, and no other one, must refuse that step
   with its sentence, and of the events the first one that was changed must be refused. As it is, each run must be accepted by all
   laws, and so must be the reports of the vectors of conformance/.
@@ -146,6 +146,8 @@ KINDS_OF_TWO_WORDS = ("call", "done", "answer", "ending", "state", "type", "unde
 def kind(event):
     if event.word == "pop":
         return f"pop {event.words[3]}"
+    if event.word == "once":
+        return f"once {event.words[2]}"
     if event.words[:2] == ("ending", "canceled") and len(event.words) == 4:
         return "ending canceled C M"
     return " ".join(event.words[:2]) if event.word in KINDS_OF_TWO_WORDS else event.word
@@ -207,7 +209,7 @@ def made_run(program, name):
     """The script of a made run, and its report as a text."""
     text, entries = RUNS[name]
     lines = [f"1 1 {entry}" for entry in entries.split("; ")]
-    number = 2 if "timedwait" in text else 1
+    number = 2 if "timedwait" in text or "\nonce " in f"\n{text}" else 1
     schedule = "\n".join([f"schedule {number} 100 4 3", *lines, f"end {len(lines)}", ""])
     return text, answer_of(program, ["replay"], f"{text}%%\n{schedule}")
 
@@ -258,7 +260,7 @@ def try_reports_spoilt(program, count):
             count(error.args[0] == place, f"of the report of '{name}' event {error.args[0]} is refused, and not {place}")
 
 
-RUNS_OF_MACHINES = 300
+RUNS_OF_MACHINES = 500
 
 
 def first_refused(runs, machine):

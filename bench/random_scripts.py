@@ -1,5 +1,5 @@
-"""Random scripts, with requests, asynchronous cancelability, destructors that set values again, condition waits, timed waits, forks, fork
-handlers, results that are stored and shown, and exits in handlers.
+"""Random scripts, with requests, asynchronous cancelability, destructors that set values again, condition waits, timed waits, once controls,
+forks, fork handlers, results that are stored and shown, and exits in handlers.
 """
 import random
 
@@ -10,7 +10,8 @@ POINTS = SAFE_POINTS + ("pause", "nanosleep", "printf", "fopen", "poll", "sigwai
 class Scripts:
     """Makes a random script, with a random number of workers, handlers and destructors. Besides these it has the functions p0,
     p1 and p2, which are plain and registered with atexit and pthread_atfork, q, which emits, b, which sets a value between a
-    push and a pop, and u and v, which unlock the mutexes; the keys k0 and k1, the globals g and n, which are counted, and go, which
+    push and a pop, and u and v, which unlock the mutexes; in some scripts the once controls o0 and o1 and the init routines i0, i1 and
+    i2; the keys k0 and k1, the globals g and n, which are counted, and go, which
     opens the condition waits."""
 
     def __init__(self, seed):
@@ -29,6 +30,8 @@ class Scripts:
         self.wild = self.random.random() < 0.15
         # In a script that is timed, many waits have a time.
         self.timed = self.random.random() < 0.5
+        # In some scripts there are once controls, with these init routines.
+        self.routines = ["i0", "i1", "i2"] if self.chance(0.45) else []
         # In a quiet one, the parts around pushes, points and requests are rare, and ends are frequent.
         self.quick = self.random.random() < 0.3
 
@@ -68,6 +71,9 @@ class Scripts:
         if not self.timed or self.chance(0.4):
             return ["sem_wait s"]
         return self.one(["sem_timedwait r s", "emit r"], ["sem_timedwait - s"], ["sem_timedwait y s", "if y", "sem_post s", "end"])
+
+    def once(self):
+        return f"pthread_once {self.one('o0', 'o0', 'o1')} {self.one(*self.routines)}"
 
     def waits(self, out):
         guarded = self.chance(0.7)
@@ -150,6 +156,10 @@ class Scripts:
                 ways += ["exit_thread", "enable", "fork"]
         if self.exits:
             ways += ["exit", "_exit"]
+        if self.routines:
+            ways += ["once", "once", "once"]
+        if self.timed:
+            ways += ["sem"]
         way = self.one(*ways)
         if inner and kind == "worker" and self.chance(0.35):
             way = self.one("waits", "ends", "exit_thread", "fork" if self.forks else "waits")
@@ -168,7 +178,7 @@ class Scripts:
         elif way == "pushed":
             self.pushed(out, depth, kind)
         elif way == "sem":
-            out += self.one(["sem_post s"], ["sem_post s"], self.sem_wait())
+            out += self.one(["sem_post s"], self.sem_wait() if self.timed else ["sem_post s"], self.sem_wait())
         elif way == "signal":
             out += [self.one("pthread_cond_signal c", "pthread_cond_broadcast c", "pthread_cond_signal d"), "set go 1"]
         elif way == "results":
@@ -204,6 +214,8 @@ class Scripts:
             if self.chance(0.5):
                 target = self.one(*self.threads)
                 out += [f"if {target}", f"pthread_detach {target}", f"set {target} 0", "end"]
+        elif way == "once":
+            out.append(self.once())
         elif way == "no_child":
             out.append(f"waitpid {self.one('-', 'r')} {self.one('0', '9', '1', 'g')} y")
         elif way == "fork":
@@ -221,6 +233,8 @@ class Scripts:
         out = [f"fn {name} x y p r"]
         for _ in range(self.random.randint(0, 2)):
             out.append(f"pthread_setspecific {self.one('k0', 'k1')} {self.one('1', '5', '9')}")
+        if self.routines and self.chance(0.6):
+            out.append(self.once())
         if self.crowd:
             out += ["pthread_mutex_lock m", "pthread_cleanup_push u 0", *self.cond_wait("c", "m"), self.one("emit 6", "pthread_testcancel", "nop"), "pthread_cleanup_pop 1"]
         for _ in range(self.random.randint(1, 3 if self.quick else 5)):
@@ -237,6 +251,16 @@ class Scripts:
             out += [self.one("do q 3", "do b 2"), "emit 4"]
         if self.exits and self.chance(0.4):
             out += ["if x", f"{self.one('exit', '_exit')} {self.one('3', '257', '4294967295')}", "end"]
+        return out + ["end"]
+
+    def routine(self, name):
+        out = [f"fn {name} x y p r", self.one("emit 30", "emit x", "pthread_testcancel", "read", "pause")]
+        if self.chance(0.3):
+            out += ["add g 4294967295", "if g", "pthread_exit 3", "end"]
+        for _ in range(self.random.randint(0, 2)):
+            self.part(out, 2, "worker")
+        if self.chance(0.3):
+            out.append(f"return {self.value()}")
         return out + ["end"]
 
     def destructor(self, name, key):
@@ -273,6 +297,8 @@ class Scripts:
                 out.append(f"pthread_cancel {thread}")
             if self.chance(0.4):
                 self.part(out, 1, "worker")
+        if self.routines and self.chance(0.6):
+            out += [self.once(), "emit 83"]
         if self.crowd:
             for _ in range(self.random.randint(1, 2)):
                 out += ["pthread_mutex_lock m", self.one("pthread_cond_signal c", "pthread_cond_signal c", "pthread_cond_broadcast c")]
@@ -294,8 +320,11 @@ class Scripts:
 
     def text(self):
         lines = ["global g", "global n", "global go", "global k0", "global k1", *(f"global {thread}" for thread in self.threads), "mutex m", "mutex l", "cond c", "cond d", "sem s 1"]
+        lines += ["once o0", "once o1"] if self.routines else []
         lines += ["fn p0 x", "emit 90", "end", "fn p1 x", "pthread_mutex_lock m", "emit 91", "pthread_mutex_unlock m", "end", "fn p2 x", "if x", "else", "emit 92", "end", "end"]
         lines += ["fn q x", "emit x", "end", "fn b x", "pthread_cleanup_push q x", "pthread_setspecific k0 x", "pthread_cleanup_pop x", "return x", "end", "fn u x", "pthread_mutex_unlock m", "end", "fn v x", "pthread_mutex_unlock l", "end"]
+        for name in self.routines:
+            lines += self.routine(name)
         for name in self.handlers:
             lines += self.handler(name)
         for name, key in zip(self.destructors, ("k0", "k1")):

@@ -10,6 +10,9 @@ CANCEL = "fn main x t\npthread_create - t w 0\npthread_cancel t\npthread_join t 
 CANCELED_OWNER = CANCEL.replace("-\nend\n", "-\npthread_mutex_lock m\nend\n")
 JOINER = "fn w x\npause\nend\nfn j x\npthread_join x -\nend\nfn main x t\npthread_create - t w 0\npthread_create - - j t\n"
 HANDLER = "fn h x\n{}\nend\nfn main x\npthread_cleanup_push h 0\npthread_exit 0\npthread_cleanup_pop 0\nend\n"
+# An init routine of a once control, of these statements, and two threads that call it.
+ONCE = "once o\nmutex m\nsem s 0\nfn i x\n{}\nend\nfn w x\npthread_once o i\nend\nfn main x t\n{}pthread_once o i\nsem_post s\nend\n"
+CREATED = "pthread_create - t w 0\n"
 SECOND = WORKER + "fn main x t\npthread_create - t w 0\npthread_create - t w 0\npthread_join {0} -\npthread_join {0} -\nend\n"
 # Threads 2 and 3 are created, thread 3 ends, and main joins it and comes to the next join.
 SECOND_TWICE = ["1 1 1 new 2", "1 1 1 new 3"] + ["1 1 3 go"] * 2 + ["1 1 1 go"] * 3
@@ -64,6 +67,51 @@ RUNS = [
         "a wait for a semaphore with the mutex locked", ["1 1 1 new 2", "1 1 2 go", "1 1 2 go"], "deadlock",
         "mutex m\nsem s 0\nfn w x\npthread_mutex_lock m\nsem_wait s\nend\nfn main x\npthread_create - - w 0\npthread_mutex_lock m\nsem_post s\nend\n",
         "F:9: thread 1.1 waits for mutex m, held by 1.2", "    thread 1.2 acquired m in step 2, F:4\n", "  Mend: let the owner unlock the mutex before it waits",
+    ),
+    (
+        "a pthread_once in its own routine", "", "deadlock", "once o\nfn i x\npthread_once o i\nend\nfn main x\npthread_once o i\nend\n",
+        "F: deadlock after 1 step: no thread can go on, and 1 has not ended\nF:3: thread 1.1 waits for once control o, called by 1.1: pthread_once o i\n",
+        "    thread 1.1 itself called the init routine i in step 1, F:6: pthread_once on o in its own routine waits for the return of the routine\n",
+        "  Mend: leave 'pthread_once' on the control out of its init routine",
+    ),
+    (
+        "an init routine that waits for the post of another caller", ["1 1 1 new 2", "1 1 2 go", "1 1 2 go"], "deadlock", ONCE.format("sem_wait s", CREATED),
+        "F:12: thread 1.1 waits for once control o, called by 1.2: pthread_once o i\n    thread 1.2 called the init routine i in step 2, F:8, and it has not returned\n",
+        "F:5: thread 1.2 waits for semaphore s: sem_wait s\n    no sem_post s was made in this process\n", "  Mend: let the init routine return without this wait.",
+    ),
+    (
+        "an init routine that locks the mutex of another caller", ["1 1 1 new 2", "1 1 1 go", "1 1 2 go"], "deadlock",
+        ONCE.format("pthread_mutex_lock m", CREATED + "pthread_mutex_lock m\n"), "F:13: thread 1.1 waits for once control o, called by 1.2",
+        "  Cycle: thread 1.1 waits for 1.2, which waits for 1.1.\n  Mend: let the init routine return without this wait.",
+    ),
+    (
+        "an init routine that pauses", ["1 1 1 new 2", "1 1 2 go", "1 1 2 go"], "deadlock", ONCE.format("pause", CREATED),
+        "F:12: thread 1.1 waits for once control o, called by 1.2", "F:5: thread 1.2 waits for a signal: pause\n", "  Usual cause: 'pause' and the like",
+    ),
+    (
+        "a pthread_once with a request pending", ["1 1 1 go", "1 1 1 new 2", "1 1 1 go", "1 1 1 go"], "deadlock",
+        ONCE.replace("i x\n", "i x t\n").format(CREATED + "pthread_cancel t\npthread_join t -", ""), "F:7: thread 1.1 waits for thread 1.2: pthread_join t -\n",
+        "F:10: thread 1.2 waits for once control o, called by 1.1: pthread_once o i\n    thread 1.1 called the init routine i in step 1, F:13, and it has not returned\n",
+        "    A request is pending for thread 1.2 since step 3, F:6: pthread_once is no cancellation point.\n  Cycle:", "  Mend: let the init routine return before the join",
+    ),
+    (
+        "two init routines that call each other", ["1 1 1 new 2", "1 1 1 go", "1 1 2 go"], "deadlock",
+        "once a\nonce b\nfn i x\npthread_once b j\nend\nfn j x\npthread_once a i\nend\nfn w x\npthread_once b j\nend\n"
+        "fn main x\npthread_create - - w 0\npthread_once a i\nend\n", "F:4: thread 1.1 waits for once control b, called by 1.2: pthread_once b j\n",
+        "F:7: thread 1.2 waits for once control a, called by 1.1: pthread_once a i\n", "  Usual cause: an init routine that calls", "call 'pthread_once' on several controls in",
+    ),
+    # The parent returns from fork, comes to `if`, and ends; the child, whose one thread is in the routine, comes to `if`.
+    (
+        "a child that is in the init routine of its parent", ["1 1 1 go"] * 6 + ["1 2 1 go"] * 2, "deadlock",
+        "once o\nfn i x\nfork - x\nif x\n_exit 0\nend\npthread_once o i\nend\nfn main x\npthread_once o i\nend\n",
+        "F:7: thread 2.1 waits for once control o, called by 2.1: pthread_once o i\n    thread 2.1 itself called the init routine i in step 1, F:10, before the fork: ",
+    ),
+    # The exit function locks the mutex of the thread that waits at the control.
+    (
+        "a thread that exits in an init routine", ["1 1 1 go", "1 1 1 new 2", "1 1 1 go"] + ["1 1 2 go"] * 3, "deadlock",
+        ONCE.replace("fn main", "fn bye x\npthread_mutex_lock m\nend\nfn main").format("exit 0", "atexit - bye\n" + CREATED + "pthread_mutex_lock m\n"),
+        "F:17: thread 1.1 waits for once control o, called by 1.2: pthread_once o i\n",
+        "    thread 1.2 called the init routine i in step 4, F:8, and began to exit the process in step 5, F:5\n",
     ),
     ("a join of a number of no thread", "", "undefined thread_id", "fn main x\npthread_join 7 -\nend\n", "    pthread_join 7 -\n  No thread of process 1 ever had this number.\n  Use:"),
     (

@@ -58,7 +58,7 @@ class Function:
 
 class Script:
     def __init__(self, text):
-        self.globals, self.mutexes, self.conds, self.sems, self.functions = [], [], [], {}, {}
+        self.globals, self.mutexes, self.conds, self.sems, self.onces, self.functions = [], [], [], {}, [], {}
         self.followers = {}
         body, opened = None, 0
         for number, line in enumerate(text.split("\n"), 1):
@@ -76,7 +76,7 @@ class Script:
             elif words[0] == "sem":
                 self.sems[words[1]] = int(words[2])
             else:
-                {"global": self.globals, "mutex": self.mutexes, "cond": self.conds}[words[0]].append(words[1])
+                {"global": self.globals, "mutex": self.mutexes, "cond": self.conds, "once": self.onces}[words[0]].append(words[1])
 
     def follower(self, function, pc, value):
         key = (function, pc, bool(value))

@@ -24,6 +24,7 @@ class SeenProcess(NamedTuple):
     variables: dict
     owners: dict
     counts: dict
+    onces: dict
     keys: dict
     exiting: object
     restricted: bool
@@ -53,7 +54,8 @@ def seen(world):
     """What is seen of each process that has not ended, and of each of its threads: the last one also while it exits the process."""
     return {
         process.pid: SeenProcess(
-            dict(process.globals), dict(process.owners), dict(process.counts), dict(process.keys), process.exit_value, process.restricted,
+            dict(process.globals), dict(process.owners), dict(process.counts),
+            {once: state for once, state in process.onces.items() if state != ("fresh",)}, dict(process.keys), process.exit_value, process.restricted,
             tuple(process.exit_functions), tuple(process.fork_handlers),
             {thread.tid: seen_thread(thread) for thread in process.threads.values() if thread.status[0] != "ended"})
         for process in world.processes.values() if process.ended is None
@@ -114,8 +116,9 @@ def is_row(line):
 
 
 def registered(field):
-    """What field 6 of the line of a process shows: the exit value, restricted, the exit functions and the fork handlers."""
-    exiting, restricted, exits, forks = None, False, [], []
+    """What field 6 of the line of a process shows: the exit value, restricted, the exit functions, the fork handlers and the once controls
+    that are not fresh."""
+    exiting, restricted, exits, forks, onces = None, False, [], [], {}
     for word, *rest in map(str.split, phrases(field)):
         if word == "exiting":
             exiting = int(rest[0])
@@ -123,9 +126,11 @@ def registered(field):
             restricted = True
         elif word == "atexit":
             exits.append(rest[0])
+        elif word == "once":
+            onces[rest[0]] = ("done",) if rest[1] == "done" else ("busy", int(rest[3].split(".")[1]))
         else:
             forks.append(tuple(rest))
-    return exiting, restricted, tuple(exits), tuple(forks)
+    return onces, exiting, restricted, tuple(exits), tuple(forks)
 
 
 def viewed(states, choices, script):
@@ -137,11 +142,11 @@ def viewed(states, choices, script):
     for fields in (line.split("\t") for line in states.splitlines() if is_row(line)):
         if "." not in fields[0]:
             pid, variables, owners, counts, keys, others = fields
-            exiting, restricted, exits, forks = registered(others)
+            onces, exiting, restricted, exits, forks = registered(others)
             processes[int(pid)] = SeenProcess(
                 pairs(" ".join(phrases(variables)).split()),
                 {words[0]: 0 if words[1] == "free" else int(words[3].split(".")[1]) for words in map(str.split, phrases(owners))},
-                pairs(" ".join(phrases(counts)).split()),
+                pairs(" ".join(phrases(counts)).split()), onces,
                 {int(key): destructor for key, destructor in map(str.split, phrases(keys))},
                 exiting, restricted, exits, forks, {})
             continue

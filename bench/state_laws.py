@@ -5,7 +5,8 @@
 - Frames: which functions a thread is in, and at which statement.
 - NewThreads: what a new thread and a new process begin with, and which handlers a fork calls.
 - WakeUps: who is unblocked in a condition wait, and by what.
-- Registrations: who owns mutexes, the counts of semaphores, keys, and what is registered.
+- Registrations: who owns mutexes, the counts of semaphores, the states of once controls, keys, and what is registered.
+- Controls: what pthread_once shows, and the return of an init routine.
 - OtherThreads: what a step leaves as it is in other threads and other processes.
 """
 from script_text import NUMBER
@@ -154,7 +155,7 @@ def is_fresh(thread):
 def inherits(step, child):
     """XSH fork: what the child has of its parent, and of the thread that forks."""
     parent, thread = step.process, step.thread
-    for name in ("variables", "owners", "counts", "keys", "exit_functions", "fork_handlers"):
+    for name in ("variables", "owners", "counts", "onces", "keys", "exit_functions", "fork_handlers"):
         if getattr(child, name) != getattr(parent, name):
             yield f"a child has the {name} of its parent"
     if child.exiting is not None or child.restricted != (len(parent.threads) > 1):
@@ -294,17 +295,22 @@ def with_entry(table, key, value):
 
 
 def registrations(step):
-    """XSH pthread_mutex_lock, sem_post, pthread_key_create, atexit, pthread_atfork, exit: what the threads of a process share."""
+    """XSH pthread_mutex_lock, sem_post, pthread_once, pthread_key_create, atexit, pthread_atfork, exit: what the threads of a process
+    share. That pthread_exit in an init routine does what a request does there is a choice of this host."""
     if step.process_after is None:
         return
     before = step.process
-    owners, counts, keys = before.owners, before.counts, before.keys
+    owners, counts, onces, keys = before.owners, before.counts, before.onces, before.keys
     exits, forks, exiting = before.exit_functions, before.fork_handlers, before.exiting
     for event in step.events:
         if event[0] in ("acquire", "release"):
             owners = with_entry(owners, event[1], step.tid if event[0] == "acquire" else 0)
         elif event[0] in ("take", "post"):
             counts = with_entry(counts, event[1], (counts[event[1]] + (1 if event[0] == "post" else -1)) % NUMBER)
+        elif event[0] == "once":
+            onces = with_entry(onces, event[1], ("busy", step.tid) if event[2] == "call" else ("done",))
+        elif event[0] == "ending":
+            onces = {once: state for once, state in onces.items() if state != ("busy", step.tid)}
         elif event[0] == "key":
             keys = with_entry(keys, int(event[1]), step.words[3])
         elif event[0] == "key_delete":
@@ -320,12 +326,36 @@ def registrations(step):
     after = step.process_after
     if after.owners != owners or after.counts != counts:
         yield "owners and counts change by the events acquire, release, take and post alone"
+    if after.onces != onces:
+        yield "a once control changes by its events, and is fresh again as the thread begins to end with which it is busy"
     if after.keys != keys:
         yield "keys are made and deleted by their events alone, with the destructor of pthread_key_create"
     if after.exit_functions != exits or after.exiting != exiting:
         yield "atexit makes its function the newest one, an exit takes the newest one away, and exit begins by its event alone"
     if after.fork_handlers != forks or after.restricted != before.restricted:
         yield "pthread_atfork adds its registration as the newest, and a process is restricted for good, or never"
+
+
+# ---- Controls
+
+
+def controls(step):
+    """XSH pthread_once: it calls the init routine, or comes after one return of it; and each return of the routine is shown."""
+    if step.stops:
+        return
+    shown = [event for event in step.events if event[0] == "once"]
+    if step.runs and step.words[0] == "pthread_once":
+        control = step.words[1]
+        if shown != step.events or shown not in ([], [("once", control, "call")]):
+            yield "pthread_once shows the call of its control, or nothing"
+        elif not shown and step.returned.count(control) != 1:
+            yield "pthread_once calls nothing only after one return of an init routine of its control"
+        elif shown and control in step.process.onces:
+            yield "pthread_once calls an init routine only of a control that is fresh"
+    elif shown != ([("once", step.routine, "done")] if step.returns and step.routine else []):
+        yield "the return from an init routine, and no other step, shows that its control is done"
+    elif shown and step.process.onces.get(step.routine) != ("busy", step.tid):
+        yield "an init routine returns in the thread with which its control is busy"
 
 
 # ---- OtherThreads
@@ -358,7 +388,7 @@ def other_threads(step):
 
 STATE_LAWS = {
     "Values": values, "Results": results, "Frames": frames, "NewThreads": new_threads, "WakeUps": wake_ups,
-    "Registrations": registrations, "OtherThreads": other_threads,
+    "Registrations": registrations, "Controls": controls, "OtherThreads": other_threads,
 }
 
 

@@ -13,9 +13,12 @@ PHASES = ("prepare", "parent", "child")
 
 @dataclasses.dataclass
 class History:
-    """Of each thread: where the callers of its functions go on, what its newest fork made, 0 if it failed, and the functions that
-    this fork has still to call."""
+    """Of each thread: where the callers of its functions go on, which once control each of its functions is the init routine of, what its
+    newest fork made, 0 if it failed, and the functions that this fork has still to call. Of each process: how often an init routine of
+    each control has returned in it, and in its parent before the fork that made it."""
     callers: dict = dataclasses.field(default_factory=dict)
+    routines: dict = dataclasses.field(default_factory=dict)
+    returned: dict = dataclasses.field(default_factory=dict)
     forked: dict = dataclasses.field(default_factory=dict)
     due: dict = dataclasses.field(default_factory=dict)
     registered: dict = dataclasses.field(default_factory=dict)
@@ -26,12 +29,16 @@ class History:
         if step.stops:
             return
         if step.drops_all:
-            self.callers[own] = []
+            self.callers[own], self.routines[own] = [], []
         elif step.returns:
-            self.callers[own] = self.callers.get(own, [])[1:]
+            self.callers[own], self.routines[own] = self.callers.get(own, [])[1:], self.routines.get(own, [])[1:]
         elif called and step.thread.frames:
             lower = step.thread.position if step.first in PHASES else step.follower
             self.callers[own] = [lower, *self.callers.get(own, [])]
+        if called:
+            self.routines[own] = [step.events[0][1] if step.first == "once" else None, *self.routines.get(own, [])]
+        done = [event[1] for event in step.events if event[0] == "once" and event[2] == "done"]
+        self.returned[step.pid] = self.returned.get(step.pid, []) + done
         if step.begins_fork:
             self.registered[own] = step.process.fork_handlers
             self.due[own] = [handlers[0] for handlers in reversed(step.process.fork_handlers) if handlers[0] != "-"]
@@ -43,7 +50,8 @@ class History:
             self.due[own] = [handlers[1] for handlers in self.registered[own] if handlers[1] != "-"]
         if made:
             child = (made, step.tid)
-            self.callers[child] = self.callers.get(own, [])
+            self.callers[child], self.routines[child] = self.callers.get(own, []), self.routines.get(own, [])
+            self.returned[made] = self.returned[step.pid]
             self.due[child] = [handlers[2] for handlers in self.registered[own] if handlers[2] != "-"]
 
 
@@ -54,6 +62,8 @@ class Step:
         # Where the callers of its functions go on, what its newest fork made, and what this fork has still to call.
         self.callers, self.forked, self.due = history.callers.get(self.own, []), history.forked.get(self.own), history.due.get(self.own, [])
         self.pid, self.tid, self.choice = entry
+        # The control of which its top function is the init routine, if it is one, and the controls of the returns of init routines so far.
+        self.routine, self.returned = next(iter(history.routines.get(self.own, [])), None), history.returned.get(self.pid, [])
         self.first = events[0][0] if events else ""
         self.stops = bool(events) and events[-1][0] in STOPS
         self.acts = self.choice == "act"
@@ -103,6 +113,8 @@ class Step:
             return event[1], int(event[2])
         if event[0] == "dtor":
             return event[3], int(event[4])
+        if event[0] == "once" and event[2] == "call":
+            return self.words[2], 0
         return (event[1], 0) if event[0] == "at_exit" or event[0] in PHASES else None
 
     @property

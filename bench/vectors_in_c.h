@@ -32,7 +32,8 @@ enum { PROCESSES = 10, THREADS = 20, KEYS = 20 };
  * acts; one that no code of the program makes; one at which the time of a condition wait expires; one that stops the
  * run. */
 enum kind { STEP, CALL, ACT, END_OF_THREAD, END_OF_PROCESS, NO_CODE, EXPIRY, STOP };
-enum frame { MAIN, START, OTHER };
+/* From ROUTINE on: the frame of an init routine, by the number of its once control. */
+enum frame { MAIN, START, OTHER, ROUTINE };
 enum { state_enable = PTHREAD_CANCEL_ENABLE, state_disable = PTHREAD_CANCEL_DISABLE };
 
 struct entry {
@@ -69,6 +70,8 @@ static struct shared {
 static int process = 1;
 static __thread int thread;
 static __thread int is_popping;
+/* The newest pthread_once of the thread that has returned has called its init routine. */
+static __thread int is_called;
 /* The thread is back from a condition wait, and has not been given its turn yet. */
 static __thread int is_back;
 static pthread_t handles[THREADS];

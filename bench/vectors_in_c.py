@@ -79,7 +79,7 @@ class Step:
 # The calls of the library that a schedule may lack are written after this, when a program is ended.
 EXTRA = "# "
 SEEN = set("""emit push pop create joined detach state type done request key key_delete take post fork reap answer handler
-acquire exit at_exit prepare parent child process_end""".split())
+acquire exit at_exit prepare parent child process_end once""".split())
 
 
 COND_WAITS = ("pthread_cond_wait", "pthread_cond_timedwait")
@@ -138,7 +138,7 @@ POINTS = {
     "sleep": "sleep(0)", "open": 'open("/dev/null", O_RDONLY)', "close": "close(dup(STDERR_FILENO))",
 }
 # The words that Writer has a function of its own for, and declarations.
-OWN = set("fn end if else while do return pthread_cleanup_push pthread_cleanup_pop global mutex cond sem".split())
+OWN = set("fn end if else while do return pthread_cleanup_push pthread_cleanup_pop pthread_once global mutex cond sem once".split())
 
 
 def words_of(script):
@@ -291,12 +291,18 @@ class Writer:
     def declarations(self):
         return (line for line in self.lines if line[0] in DECLARED)
 
+    def controls(self):
+        return [name for word, name, *_ in self.declarations() if word == "once"]
+
     def program(self):
         for word, name, *_ in self.declarations():
-            self.out.append(f"static {DECLARED[word]}{name};")
+            self.out.append(f"static {DECLARED[word].format(name)};")
         self.out.append("static __thread uint32_t sink;")
         for name in self.functions:
             self.out.append(WRAPPERS.replace("NAME", name))
+        for name in self.functions:
+            for number, control in enumerate(self.controls()):
+                self.out.append(ROUTINE.replace("NAME", name).replace("CONTROL", control).replace("NUMBER", str(number)))
         for line in self.lines:
             if line[0] not in DECLARED:
                 self.out.append(getattr(self, f"do_{line[0]}", self.do_call)(*line))
@@ -319,7 +325,7 @@ class Writer:
     def do_end(self, _):
         block = self.blocks.pop()
         if block == "fn":
-            return "take(); returns(frame, 0); return 0; }"
+            return f"take(); {self.done()} returns(frame, 0); return 0; }}"
         return "take(); pass(); } }" if block == "if" else "take(); pass(); }"
 
     def do_if(self, _, value):
@@ -334,7 +340,11 @@ class Writer:
         return f"for (;;) {{ int is; take(); is = {self.value(value)} != 0; pass(); if (!is) break;"
 
     def do_return(self, _, value):
-        return f"{{ uint32_t value; take(); value = {self.value(value)}; returns(frame, value); return value; }}"
+        return f"{{ uint32_t value; take(); value = {self.value(value)}; {self.done()} returns(frame, value); return value; }}"
+
+    def done(self):
+        """What shows the return of a function, if it is one of an init routine."""
+        return " ".join(f'if (frame == ROUTINE + {number}) show("once {control} done");' for number, control in enumerate(self.controls()))
 
     def do_do(self, _, name, value):
         return f"{{ uint32_t value; take(); value = {self.value(value)}; pass(); fn_{name}(OTHER, value); }}"
@@ -349,6 +359,11 @@ class Writer:
         return (f"take(); is_popping = {self.value(value)} != 0;\n"
                 f"show(is_popping ? \"pop {name} %u run\" : \"pop {name} %u drop\", pushed); pass();\n"
                 "pthread_cleanup_pop(is_popping); }")
+
+    def do_pthread_once(self, _, control, name):
+        """The step is that of the call of the routine, if the library calls one, and else that of the statement."""
+        return (f"{{ take(); is_called = 0; int error = pthread_once(&o_{control}, once_{control}_{name});\n"
+                'if (error) show("error %d of pthread_once", error); if (!is_called) pass(); }')
 
     def do_call(self, name, *words):
         """A statement that is one call: what comes before it, the call, what comes after it."""
@@ -369,10 +384,13 @@ class Writer:
         return re.sub(r"(dtor|prepare|parent|child)_-", "NULL", text)
 
 
-DECLARED = {"global": "uint32_t g_", "mutex": "pthread_mutex_t m_", "cond": "pthread_cond_t c_", "sem": "sem_t s_"}
+DECLARED = {
+    "global": "uint32_t g_{0}", "mutex": "pthread_mutex_t m_{0}", "cond": "pthread_cond_t c_{0}", "sem": "sem_t s_{0}",
+    "once": "pthread_once_t o_{0} = PTHREAD_ONCE_INIT",
+}
 OPENED = {
     "global": "", "mutex": "pthread_mutex_init(&m_{0}, &type);", "cond": "pthread_cond_init(&c_{0}, NULL);",
-    "sem": "sem_init(&s_{0}, 0, {1});",
+    "sem": "sem_init(&s_{0}, 0, {1});", "once": "",
 }
 WRAPPERS = """static uint32_t fn_NAME(enum frame frame, uint32_t v);
 static void handler_NAME(void *given)
@@ -392,6 +410,14 @@ static void exit_NAME(void) { take_call("NAME"); show("at_exit NAME"); pass(); f
 static void prepare_NAME(void) { take_call("NAME"); show("prepare NAME"); pass(); fn_NAME(OTHER, 0); }
 static void parent_NAME(void) { take_call("NAME"); show("parent NAME"); pass(); fn_NAME(OTHER, 0); }
 static void child_NAME(void) { take_call("NAME"); show("child NAME"); pass(); fn_NAME(OTHER, 0); }
+"""
+# A function as an init routine of a control.
+ROUTINE = """static void once_CONTROL_NAME(void)
+{
+    show("once CONTROL call"); pass();
+    fn_NAME((enum frame)(ROUTINE + NUMBER), 0);
+    is_called = 1;
+}
 """
 # The statement, and what its words are: v a value, d where a result goes, n a name. The step is taken before it.
 STATEMENTS = {

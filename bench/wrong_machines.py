@@ -7,7 +7,7 @@ A machine is the definition of a step with one line of it changed, so that it br
 a request that is dropped. In a copy of the crates up to pct_ending_laws each machine is made in turn, and `rt check` then has to
 prove the laws of it. It is refused if the check does not prove them, and if an error is in a certain file: that of the proof of
 the law, or of a part of the invariant which this law needs. Other files have errors, too, where their proofs use the line that
-was changed. A crate is checked only where those below it are proved, so in the copy the eight crates that prove the laws are one.
+was changed. A crate is checked only where those below it are proved, so in the copy the nine crates that prove the laws are one.
 The list of the cases of a transition, from which the laws are proved, repeats the transitions; where the changed line is one of a
 transition, or of a choice, its case is changed alike, so that what is refused is the law.
 
@@ -25,7 +25,7 @@ import tempfile
 ROOT = pathlib.Path(__file__).resolve().parent.parent
 BELOW = ("pct_io", "pct_model", "pct_names", "pct_laws", "pct_jumps", "pct_transition_cases")
 # The crates that prove the laws. In the copy they are the last one.
-LAWS = ("pct_thread_invariants", "pct_join_laws", "pct_wake_laws", "pct_cancel_laws", "pct_process_laws", "pct_frame_laws", "pct_creation_laws", "pct_ending_laws")
+LAWS = ("pct_thread_invariants", "pct_join_laws", "pct_once_laws", "pct_wake_laws", "pct_cancel_laws", "pct_process_laws", "pct_frame_laws", "pct_creation_laws", "pct_ending_laws")
 SPECS = "crates/pct_model/specs"
 CASES = "crates/pct_transition_cases/proofs"
 SECONDS = 1800
@@ -47,6 +47,8 @@ class Machine:
     offer: tuple = ()
     # Further such changes.
     others: tuple = ()
+    # Further lines of definitions: the file, the line, and the line in its place.
+    lines: tuple = ()
 
 
 MACHINES = (
@@ -215,6 +217,43 @@ MACHINES = (
             ("TransitionCases",
              "(what.Answer caller.SemTimedWait ETIMEDOUT ∷ [])) { writes = (result, ETIMEDOUT) ∷ [] })",
              "(what.Answer caller.SemTimedWait ETIMEDOUT ∷ [])) { writes = (result, ETIMEDOUT) ∷ []; shared = Some (shared_action.SetCount sem (slice_index shared.counts sem - 1)) })")),
+    Machine("a_canceled_routine_leaves_its_control_busy", "OnceLaw", "OnceTransitions", "Actions",
+            "onces_after tid (Some (own_action.BeginEnd why)) onces = map (abandoned tid) onces",
+            "onces_after tid (Some (own_action.BeginEnd why)) onces = onces"),
+    Machine("a_canceled_routine_leaves_its_control_done", "OnceLaw", "OnceStates", "OnceCalls",
+            "abandoned tid (Busy id) = if nat_eq id tid then Fresh else Busy id",
+            "abandoned tid (Busy id) = if nat_eq id tid then Done else Busy id"),
+    # A thread that comes to a control while another one is in its init routine calls nothing, and goes on.
+    Machine("a_second_caller_does_not_wait", "OnceLaw", "RoutineReturns", "ChoiceTable",
+            "is_blocked (statement.CallOnce o f) shared = is_busy (once_at shared.onces o)",
+            "is_blocked (statement.CallOnce o f) shared = false",
+            ("TransitionCases",
+             "routine_done : (frame : Frame) (o f : ℕ) → once_at shared.onces o ≡ OnceDone → TransitionCase",
+             "routine_done : (frame : Frame) (o f : ℕ) → true ≡ true → TransitionCase"),
+            ("OfferedChoices",
+             "choice ≡ true → is_busy (once_at shared.onces o) ≡ false",
+             "choice ≡ true → false ≡ false"),
+            (("OfferedChoices",
+              "(is_deliverable t.state t.pending) (is_busy (once_at shared.onces o))",
+              "(is_deliverable t.state t.pending) false"),
+             ("CaseOfTransition",
+              "once_case frame o f (Busy id) is room = rests (StatementIn frame (statement.CallOnce o f)) status.Running (λ known. refl)",
+              "once_case frame o f (Busy id) is room = routine_done frame o f refl"),
+             ("CaseOfTransition",
+              "once_case frame o f OnceDone is room = routine_done frame o f is",
+              "once_case frame o f OnceDone is room = routine_done frame o f refl")),
+            (("OnceCalls",
+              "calls_once next o f id (Busy other) = no_change",
+              "calls_once next o f id (Busy other) = goes_on next []"),)),
+    Machine("a_routine_runs_again", "OnceLaw", "OnceTransitions", "OnceCalls",
+            "{ own = Some (own_action.Leave Running); shared = Some (shared_action.SetOnce o Done) }",
+            "{ own = Some (own_action.Leave Running); shared = Some (shared_action.SetOnce o Fresh) }",
+            ("TransitionCases",
+             "shared = Some (shared_action.SetOnce o OnceDone) })",
+             "shared = Some (shared_action.SetOnce o Fresh) })")),
+    Machine("a_child_has_fresh_controls", "CreationLaw", "creations/NewProcesses", "Actions",
+            "shared = record p.shared { exit_value = None; restricted",
+            "shared = record p.shared { onces = []; exit_value = None; restricted"),
     Machine("atexit_registers_nothing", "SharedLaw", "SharedChanges", "Actions",
             "shared_after (Some (shared_action.AddExit f)) s = record s { exit_functions = f ∷ s.exit_functions }",
             "shared_after (Some (shared_action.AddExit f)) s = s"),
@@ -284,6 +323,48 @@ MACHINES = (
             ("TransitionCases",
              "(record (acts []) { own = Some (own_action.Leave (status.Forking at)) })",
              "(record (acts []) { own = Some (own_action.Leave status.Running) })")),
+    # The child is in fork still, after its call: where a fork follows directly, that one returns without being called.
+    Machine("fork_does_not_end_in_the_child", "ForkLaw", "forks/ReturnedForks", "ForkCalls",
+            "goes_on_after_handlers ChildPhase at new_pid (StatementIn frame (statement.Fork result child)) = returns_in_child (suc frame.pc) result child",
+            "goes_on_after_handlers ChildPhase at new_pid (StatementIn frame (statement.Fork result child)) = record (goes_on (suc frame.pc) []) "
+            "{ writes = (result, 0) ∷ (child, 0) ∷ []; own = Some (own_action.SetStatus (status.Forking at)) }",
+            ("TransitionCases",
+             "    waitpid_begun : (frame : Frame) (result d : Dest) (pid : Operand)",
+             "    fork_stays_open : (frame : Frame) (result child : Dest) (at : ForkAt) → TransitionCase (StatementIn frame (statement.Fork result child)) (status.Forking at) "
+             "(record (goes_on (suc frame.pc) []) { writes = (result, 0) ∷ (child, 0) ∷ []; own = Some (own_action.SetStatus (status.Forking at)) })\n"
+             "    waitpid_begun : (frame : Frame) (result d : Dest) (pid : Operand)"),
+            ("CaseOfTransition",
+             "fork_returned frame result child at 0",
+             "fork_stays_open frame result child at"),
+            (("CaseOfTransition",
+              "{fork_failed, fork_returned, waitpid_begun,",
+              "{fork_failed, fork_returned, fork_stays_open, waitpid_begun,"),)),
+    Machine("a_thread_with_a_handler_left_exits", "Ends", "steps/EndStages", "ThreadEnds",
+            "= record (acts (what.HandlerRun f a ∷ [])) { own = Some (own_action.RunHandler f a) }",
+            "= record (acts (what.ExitBegun 5 ∷ [])) { own = Some own_action.BeginExit; shared = Some (shared_action.BeginExit 5) }",
+            ("TransitionCases",
+             "(record (acts (what.HandlerRun f a ∷ [])) { own = Some (own_action.RunHandler f a) })",
+             "(record (acts (what.ExitBegun 5 ∷ [])) { own = Some own_action.BeginExit; shared = Some (shared_action.BeginExit 5) })")),
+    Machine("asynchronous_is_deferred", "CancelLaw", "requests/SetCancelability", "CancelCalls",
+            "mode_if true = Asynchronous",
+            "mode_if true = Deferred"),
+    # The call is a stop, and sets 77.
+    Machine("a_stop_sets_a_value", "Ends", "steps/KeptValues", "KeyCalls",
+            "sets_specific next k v = record (goes_on next []) { own = Some (own_action.SetSpecific k v) }",
+            "sets_specific next k v = record (stops KeyId) { own = Some (own_action.SetSpecific k 77) }",
+            ("TransitionCases",
+             "(record (goes_on (suc frame.pc) []) { own = Some (own_action.SetSpecific (value frame key) (value frame v)) })",
+             "(record (stops KeyId) { own = Some (own_action.SetSpecific (value frame key) 77) })"),
+            ("TransitionCases",
+             "use Rattle.pct_model.specs.declared.transition.NamedAction.TheVariants as named_action",
+             "use Rattle.pct_model.specs.declared.stop.Why.TheVariants.{KeyId}\nuse Rattle.pct_model.specs.declared.transition.NamedAction.TheVariants as named_action"),
+            (),
+            (("KeyCalls",
+              "use Rattle.pct_model.specs.Transitions.{goes_on, no_change}",
+              "use Rattle.pct_model.specs.Transitions.{goes_on, no_change, stops}\nuse Rattle.pct_model.specs.declared.stop.Why.TheVariants.{KeyId}"),)),
+    Machine("disabled_is_0", "ResultLaw", "results/StoredResults", "CancelCalls",
+            "state_number Disable = 1",
+            "state_number Disable = 0"),
     Machine("handlers_return_at_once", "FrameLaw", "frames/MovedFrames", "Actions",
             "thread_at (Some pc) t = record t { status = Running; frames = at_pc pc t.frames }",
             "thread_at (Some pc) t = elim t.frames [ [] ↦ t | frame ∷ below ↦ elim frame.kind [ "
@@ -328,7 +409,7 @@ def errors(folder):
 
 def tried(machine, folder):
     """Why the machine is not refused as it should be, or None, and the files in which its proofs fail."""
-    changes = [(folder / SPECS, machine.file, machine.line, machine.wrong)]
+    changes = [(folder / SPECS, machine.file, machine.line, machine.wrong), *((folder / SPECS, *change) for change in machine.lines)]
     changes += [(folder / CASES, *change) for change in (machine.case, machine.offer, *machine.others) if change]
     texts, changed = {}, {}
     for parent, file, line, wrong in changes:

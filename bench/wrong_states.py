@@ -154,9 +154,9 @@ class PushIsLeftOut(World):
 
 
 class ExitKeepsFrames(World):
-    def begin_end(self, thread, reason):
+    def begin_end(self, process, thread, reason):
         frames = thread.frames
-        super().begin_end(thread, reason)
+        super().begin_end(process, thread, reason)
         thread.frames = frames
 
 
@@ -446,6 +446,70 @@ class ExpiredHandsOn(World):
         return super().act(process, thread, number)
 
 
+class OnceCallsNothing(World):
+    def at_pthread_once(self, process, thread, words, number):
+        self.advance(thread)
+        return []
+
+
+class OnceCallsAgain(World):
+    def at_pthread_once(self, process, thread, words, number):
+        process.onces[words[1]] = ("fresh",)
+        return super().at_pthread_once(process, thread, words, number)
+
+
+class OnceIsNotBusy(World):
+    def at_pthread_once(self, process, thread, words, number):
+        state = process.onces[words[1]]
+        events = super().at_pthread_once(process, thread, words, number)
+        process.onces[words[1]] = state
+        return events
+
+
+class RoutineGets1(World):
+    def call(self, thread, name, argument, kind, alone=False):
+        super().call(thread, name, 1 if kind[0] == "routine" else argument, kind, alone)
+
+
+class RoutineLeavesItsControlBusy(World):
+    def leave_routine(self, process, once):
+        return [("once", once, "done")]
+
+
+class RoutineLeavesItsControlFresh(World):
+    def leave_routine(self, process, once):
+        process.onces[once] = ("fresh",)
+        return [("once", once, "done")]
+
+
+class RoutineShowsNoReturn(World):
+    def leave_routine(self, process, once):
+        super().leave_routine(process, once)
+        return []
+
+
+class EndLeavesControlsBusy(World):
+    def abandon(self, process, thread):
+        pass
+
+
+class EndLeavesControlsDone(World):
+    def abandon(self, process, thread):
+        for once, state in process.onces.items():
+            if state == ("busy", thread.tid):
+                process.onces[once] = ("done",)
+
+
+class EndFreesAllControls(World):
+    def abandon(self, process, thread):
+        process.onces = dict.fromkeys(process.onces, ("fresh",))
+
+
+class ChildWithFreshControls(Forks):
+    def change(self, child, replica, process, thread):
+        child.onces = dict.fromkeys(child.onces, ("fresh",))
+
+
 class AtexitRegistersNothing(World):
     def at_atexit(self, process, thread, words, number):
         self.returns(process, thread, (words[1], 0))
@@ -570,6 +634,17 @@ MACHINES = (
     ("Registrations", "owners and counts", TimesOutWithoutMutex),
     ("Registrations", "owners and counts", TimeOutTakes),
     ("Registrations", "owners and counts", ReturnsWithoutMutex),
+    ("Registrations", "a once control changes", OnceIsNotBusy),
+    ("Registrations", "a once control changes", RoutineLeavesItsControlBusy),
+    ("Registrations", "a once control changes", RoutineLeavesItsControlFresh),
+    ("Registrations", "a once control changes", EndLeavesControlsBusy),
+    ("Registrations", "a once control changes", EndLeavesControlsDone),
+    ("Registrations", "a once control changes", EndFreesAllControls),
+    ("Controls", "calls nothing only after one return", OnceCallsNothing),
+    ("Controls", "of a control that is fresh", OnceCallsAgain),
+    ("Controls", "shows that its control is done", RoutineShowsNoReturn),
+    ("Frames", "a new frame has the argument", RoutineGets1),
+    ("NewThreads", "a child has the onces", ChildWithFreshControls),
     ("Registrations", "atexit makes its function the newest", AtexitRegistersNothing),
     ("Registrations", "atexit makes its function the newest", AtexitRegistersLast),
     ("Registrations", "with the destructor", KeyWithoutDestructor),

@@ -201,7 +201,7 @@ explain_deadlock() {
             return
         fi
         # The others may wait for a thread that waits so.
-        for why in condition semaphore mutex process a thread; do
+        for why in condition semaphore mutex process a once thread; do
             if grep -q "waits for $why " "$folder/choices"; then break; fi
         done
         show_reason deadlock "$why"

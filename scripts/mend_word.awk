@@ -75,6 +75,8 @@ function fault_of_syntax(   i) {
 function fault_of_count(w,   i, part, parts) {
     if (w == "sem" && words == 2) return keep("missing_count")
     if (w == "fn" && words == 2) return keep("missing_parameter")
+    if (w == "once" && words == 3 && open) return keep("once_call")
+    if (w ~ /^pthread_once$/ && words == 2) return keep("missing_routine")
     if (w == "pthread_create" && words == 4) return keep(word[3] in declared ? "create_result" : "pthread_create")
     if (is_timed()) return keep("timed_wait")
     for (i = 1; i <= forms[w]; i++) {
@@ -94,13 +96,15 @@ function keep(name) {
 # Of a name that is not declared as a kind.
 function fault_of_name(w, kind,   other) {
     if (first[line_declaring(w)] == "fn" && word[1] ~ /^pthread_(join|detach|cancel)$/) return "thread_name"
-    if (is_timed() && kind != "function" && first[line_declaring(w)] ~ /^(mutex|cond|sem)$/) return "timed_wait"
+    if (is_timed() && kind != "function" && first[line_declaring(w)] ~ /^(mutex|cond|sem|once)$/) return "timed_wait"
     if (word[1] == "pthread_cond_wait" && first[line_declaring(word[2])] == "mutex" && first[line_declaring(word[3])] == "cond") return "other_order"
+    if (word[1] ~ /^pthread_once$/ && first[line_declaring(word[2])] == "fn" && first[line_declaring(word[3])] == "once") return "other_order"
     if (w in declared) return ""
     if (w in local_in) return kind == "variable" ? "local_elsewhere" : ""
     for (other in declared) if (tolower(other) == tolower(w)) return ""
     if (kind == "condition variable") return "undeclared_cond"
     if (kind == "semaphore") return "undeclared_sem"
+    if (kind == "once control") return "undeclared_once"
     return "undeclared_" (kind == "function" ? "fn" : kind)
 }
 

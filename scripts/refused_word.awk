@@ -45,7 +45,7 @@ END {
 # What a line declares, opens and closes. Of the refused line: what is open there.
 function survey(line,   parts, part, i) {
     if (line == at) note_position()
-    if (first[line] == "fn" || first[line] ~ /^(global|mutex|cond|sem)$/) {
+    if (first[line] == "fn" || is_declaration(first[line])) {
         counted[first[line]]++
         if (!(second[line] in declared)) declared[second[line]] = line
     }
@@ -101,6 +101,9 @@ function quoted(w) { return "'" w "'" }
 # The line that declares a name outside functions, or 0.
 function line_declaring(w) { return w in declared ? declared[w] : 0 }
 
+# Whether a word begins a declaration of one line.
+function is_declaration(w) { return w ~ /^(global|mutex|cond|sem|once)$/ }
+
 function is_name(w) { return w ~ /^[A-Za-z_][A-Za-z0-9_]*$/ && length(w) <= 31 }
 
 function is_number(w) { return w ~ /^[0-9]+$/ && length(w) <= 10 && w + 0 <= 4294967295 }
@@ -146,6 +149,7 @@ function meaning_of(place) {
     if (place == "M") return "M, the name of a mutex"
     if (place == "C") return "C, the name of a condition variable"
     if (place == "S") return "S, the name of a semaphore"
+    if (place == "O") return "O, the name of a once control"
     return "a name"
 }
 
@@ -245,6 +249,7 @@ function on_base(w, base) {
 function kind_of_line(line) {
     if (first[line] == "cond") return "condition variable"
     if (first[line] == "sem") return "semaphore"
+    if (first[line] == "once") return "once control"
     return first[line] == "fn" ? "function" : first[line]
 }
 
@@ -253,6 +258,7 @@ function kind_at(place) {
     if (place == "M") return "mutex"
     if (place == "C") return "condition variable"
     if (place == "S") return "semaphore"
+    if (place == "O") return "once control"
     return place ~ /^FN/ ? "function" : "variable"
 }
 
@@ -295,7 +301,7 @@ function on_not_plain(   i, n, line, inside) {
         for (n = 1; n <= lines; n++) {
             line = line_of[n]
             if (first[line] == "fn") inside = second[line] == word[i]
-            else if (inside && first[line] !~ /^(emit|set|add|if|else|end|return|pthread_mutex_lock|pthread_mutex_unlock|global|mutex|cond|sem)$/)
+            else if (inside && !is_declaration(first[line]) && first[line] !~ /^(emit|set|add|if|else|end|return|pthread_mutex_lock|pthread_mutex_unlock)$/)
                 return quoted(word[i]) " has " quoted(first[line]) " in line " line "."
         }
     }
@@ -315,7 +321,7 @@ function opened(line) {
 }
 
 function on_open_function(   sentence) {
-    if (word[1] ~ /^(global|mutex|cond|sem)$/) known("declaration", word[1])
+    if (is_declaration(word[1])) known("declaration", word[1])
     if (word[1] == "fn") known("missing_end", word[1])
     sentence = "The " opened(open_function) " is open here"
     if (open != open_function) sentence = sentence ", and in it the " opened(open)

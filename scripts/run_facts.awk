@@ -84,8 +84,15 @@ function note_call(word) {
     if (word[1] == "pop") handlers[who]--
     if (word[1] == "pop" && word[4] == "run") called[who] = "the handler " word[2] ", which a pop called in " this_step()
     if (word[1] == "handler") called[who] = "the cleanup handler " word[2] ", called in " this_step()
+    if (word[1] == "once" && word[3] == "call") routine_called[who " " word[2]] = routine_in(doing) " in " this_step()
     if (word[1] == "at_exit") called[who] = "the exit function " word[2] ", called in " this_step()
     if (word[1] == "dtor") called[who] = "the destructor " word[4] ", called in " this_step()
+}
+
+# The init routine in the text of a pthread_once.
+function routine_in(text,   word) {
+    split(text, word, " ")
+    return word[3]
 }
 
 # Mutexes, condition variables and semaphores.

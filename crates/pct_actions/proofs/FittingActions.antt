@@ -5,6 +5,7 @@ use Rattle.pct_names.proofs.Names.{moved, named_after, NamedAction, nat_eq, None
 use Rattle.pct_names.proofs.Names.{shared_moved, SharedAction, SharedState, slice_get, slice_get-get_or, slice_set, slot_of, Some, subst}
 use Rattle.pct_names.proofs.Names.{suc, sym, Thread, Transition, true, zero, ℕ, ◌∙◌, ◌∷◌, ◌≡◌, ◌≢◌, ◌≤◌}
 use Rattle.std.proofs.Common.{ne_eqb, eq-eqb}
+use Rattle.pct_model.specs.declared.state.OnceState.{OnceState}
 use Rattle.pct_model.specs.declared.transition.NamedAction.TheVariants as named_action
 use Rattle.pct_model.specs.declared.transition.SharedAction.TheVariants as shared_action
 use Rattle.pct_engine_laws.specs.Seen.{SeenSlot, on_slot, slot_after}
@@ -32,12 +33,12 @@ alone_on slots single k t here =
       | inr past ↦ absurd (none-some t (sym (ap (λ (s : SeenSlot). first_of s.here) (get_or_past slots k _ past)) ∙ here))
     ]
 
--- what the threads share fits the action on it with other globals too
-shared_kept : (a : Option SharedAction) (s : SharedState) (globals : List ℕ) → SharedFits a s → SharedFits a (record s { globals = globals })
-shared_kept (Some (shared_action.MakeKey k destructor)) s globals fits = fits
-shared_kept (Some (shared_action.AddForkHandlers handlers)) s globals fits = fits
-shared_kept (Some (shared_action.AddExit f)) s globals fits = fits
-shared_kept _ s globals fits = tt
+-- what the threads share fits the action on it with other globals and once controls too
+shared_kept : (a : Option SharedAction) (s : SharedState) (globals : List ℕ) (onces : List OnceState) → SharedFits a s → SharedFits a (record s { globals = globals; onces = onces })
+shared_kept (Some (shared_action.MakeKey k destructor)) s globals onces fits = fits
+shared_kept (Some (shared_action.AddForkHandlers handlers)) s globals onces fits = fits
+shared_kept (Some (shared_action.AddExit f)) s globals onces fits = fits
+shared_kept _ s globals onces fits = tt
 
 -- ---- after the thread's own part
 
@@ -98,17 +99,17 @@ module _ (slot : ℕ) (o : Transition) (p : ProcessData) (needs : Makes slot o p
   named_kept _ fits = tt
 
   -- the other actions fit the process
-  pub others_fit : OthersFit o (own_made slot o p)
+  pub others_fit : OthersFit o (own_made t.id slot o p)
   others_fit = record {
     on_slots = subst AreOnSlots (sym own_is_all) (on_slots_kept p.slots needs.on_slots (on_thread t.id (moved o)) (on_thread_keeps t.id (moved o) (transition_keeps_id o)));
     tid = t.id;
-    shared = shared_kept o.shared p.shared (own_made slot o p).shared.globals needs.shared;
+    shared = shared_kept o.shared p.shared (own_made t.id slot o p).shared.globals (own_made t.id slot o p).shared.onces needs.shared;
     named = named_kept o.named needs.named;
     forgets = needs.forgets;
   }
 
   -- and after them it is that of the transition, but for the thread that it creates
-  pub parts_made : others_made o (own_made slot o p) ≡ record { slots = map (slot_after t.id o) p.slots; shared = shared_moved o p.shared }
+  pub parts_made : others_made o (own_made t.id slot o p) ≡ record { slots = map (slot_after t.id o) p.slots; shared = shared_moved t.id o p.shared }
   parts_made =
-      (λ i. record { slots = map (slot_changed (named_after o.named)) (own_is_all i); shared = shared_moved o p.shared })
-      ∙ ap (λ (slots : List SeenSlot). record { slots = slots; shared = shared_moved o p.shared }) (change_after (on_thread t.id (moved o)) (named_after o.named) (named_keeps o.named) p.slots)
+      (λ i. record { slots = map (slot_changed (named_after o.named)) (own_is_all i); shared = shared_moved t.id o p.shared })
+      ∙ ap (λ (slots : List SeenSlot). record { slots = slots; shared = shared_moved t.id o p.shared }) (change_after (on_thread t.id (moved o)) (named_after o.named) (named_keeps o.named) p.slots)

@@ -1,7 +1,7 @@
 -- The thread that makes a transition: what its tables have after the transition, and what it has room for.
 use Rattle.pct_names.proofs.Names.{◌&&◌, ◌<◌, [], ap, at_pc, Bool, cond, false, false≢true, filter, frames_written, globals_written}
 use Rattle.pct_names.proofs.Names.{holds_slot, if_number, is_ended_status, is_some, Key, key_at, key_place, key_with, KeyPlace, KeyValues}
-use Rattle.pct_names.proofs.Names.{length, List, map, moved, None, not, Option, option_and_then, own_after, OwnAction, refl, Running}
+use Rattle.pct_names.proofs.Names.{length, List, map, moved, None, not, onces_after, Option, option_and_then, own_after, OwnAction, refl, Running}
 use Rattle.pct_names.proofs.Names.{same_Some, set-get_or, SharedState, slice_get, slice_set, Some, subst, sym, Thread, thread_at}
 use Rattle.pct_names.proofs.Names.{Transition, true, written, ℕ, ◌∙◌, ◌∷◌, ◌≡◌}
 use Rattle.pct_model.specs.declared.transition.OwnAction.TheVariants as own_action
@@ -96,9 +96,9 @@ module _ (keys : Table) (threads : List Slot) (fit : length keys.rows ≡ length
   keys_fit = subst (KeyFits o.own) (sym (ap (λ (d : ProcessData). d.shared.keys) view)) w.keys
 
   -- the process after the transition
-  pub after_own : (rows : List KeyValues) (new : List Slot) → rows ≡ own_rows slot o.own keys.rows → new ≡ own_moved slot o threads
-      → record { slots = slots_of rows new; shared = record shared { globals = written globals_written o.writes shared.globals } } ≡ own_made slot o p
-  after_own rows new kept changed =
+  pub after_own : (tid : ℕ) (rows : List KeyValues) (new : List Slot) → rows ≡ own_rows slot o.own keys.rows → new ≡ own_moved slot o threads
+      → record { slots = slots_of rows new; shared = record shared { globals = written globals_written o.writes shared.globals; onces = onces_after tid o.own shared.onces } } ≡ own_made tid slot o p
+  after_own tid rows new kept changed =
       let after : KeyValues = own_row o.own w.thread row in
       (λ i. record {
         slots = (
@@ -106,6 +106,6 @@ module _ (keys : Table) (threads : List Slot) (fit : length keys.rows ≡ length
             ∙ ap (slots_of (slice_set keys.rows slot after)) changed
             ∙ changed_slot keys threads fit slot after (after_change (λ h. unless_reclaimed (held_of (moved o (thread_of h))))) (slot_changed (moved o)) inside (slot_moved o w.thread row (slot_at threads slot))
             ) i;
-        shared = record shared { globals = written globals_written o.writes shared.globals };
+        shared = record shared { globals = written globals_written o.writes shared.globals; onces = onces_after tid o.own shared.onces };
       })
-      ∙ ap (own_made slot o) view
+      ∙ ap (own_made tid slot o) view

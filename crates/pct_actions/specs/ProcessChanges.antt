@@ -22,7 +22,7 @@ use Rattle.pct_process.specs.ProcessViews.{thread_on_slot, ProcessData}
 
 -- the data of a process after a transition of its thread with an id
 abbrev pub data_moved : ℕ → Transition → ProcessData → ProcessData
-data_moved tid o p = record { slots = slots_moved (length p.slots) tid o p.slots; shared = shared_moved o p.shared }
+data_moved tid o p = record { slots = slots_moved (length p.slots) tid o p.slots; shared = shared_moved tid o p.shared }
 
 -- ---- what it needs
 

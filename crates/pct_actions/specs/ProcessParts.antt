@@ -4,7 +4,7 @@ use Rattle.std.specs.Prelude.{◌≡◌, ℕ, true, [], ◌∷◌, length, map, 
 use Rattle.std.specs.List.{list_any}
 use Rattle.pct_model.specs.declared.transition.NewThread.{NewThread}
 use Rattle.pct_model.specs.declared.transition.Transition.{Transition}
-use Rattle.pct_model.specs.Actions.{globals_written, moved, named_after, shared_after, written}
+use Rattle.pct_model.specs.Actions.{globals_written, moved, named_after, onces_after, shared_after, written}
 use Rattle.pct_model.specs.ThreadSlots.{holds_slot}
 use Rattle.pct_model.specs.World.{Thread}
 use Rattle.pct_engine_laws.specs.Fitting.{Fits}
@@ -25,11 +25,11 @@ slot_changed change s = record s { here = filter holds_slot (map change s.here) 
 
 -- ---- the parts
 
--- the process after the part of the thread on a slot, with what is written to globals
-abbrev pub own_made : ℕ → Transition → ProcessData → ProcessData
-own_made slot o p = record {
+-- the process after the part of the thread on a slot, which has this id, with what is written to globals, and the once controls
+abbrev pub own_made : ℕ → ℕ → Transition → ProcessData → ProcessData
+own_made tid slot o p = record {
   slots = on_slot slot (slot_changed (moved o)) p.slots;
-  shared = record p.shared { globals = written globals_written o.writes p.shared.globals };
+  shared = record p.shared { globals = written globals_written o.writes p.shared.globals; onces = onces_after tid o.own p.shared.onces };
 }
 
 -- the process after the actions on what its threads share, and on the threads that are named

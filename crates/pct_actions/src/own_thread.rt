@@ -1,8 +1,9 @@
 //! What a transition changes for the thread that makes it, and in the globals.
 
-ghost use Rattle.std.specs.Prelude.{◌≡◌, ◌<◌, length};
+ghost use Rattle.std.specs.Prelude.{◌≡◌, ◌<◌, ℕ, Some, length, option_map};
 ghost use Rattle.std.specs.Option.{option_to_list};
-ghost use Rattle.pct_model.specs.Actions.{globals_written, written};
+ghost use Rattle.pct_model.specs.Actions.{globals_written, onces_after, written};
+ghost use Rattle.pct_process.specs.ProcessViews.{thread_on_slot};
 ghost use Rattle.pct_actions.specs.OwnChanges.{own_rows};
 ghost use Rattle.pct_actions.specs.ProcessChanges.{KeyFits};
 ghost use Rattle.pct_actions.specs.ProcessParts.{own_made, OwnFits};
@@ -10,13 +11,15 @@ ghost use Rattle.pct_actions.specs.ProcessParts.{own_made, OwnFits};
 use crate::own_actions::move_own;
 use pct_keys::{Keys, key_place};
 use pct_model::{Dest, OwnAction, Transition, UpToThree};
-use pct_process::{Numbers, ProcessState};
+use pct_process::{Numbers, OnceControls, ProcessState};
 
-/// Makes the changes of a transition in the thread on a slot, which makes it, and in the globals.
+/// Makes the changes of a transition in the thread on a slot, which makes it, in the globals, and in the once controls.
 pub(crate) fn make_own(process: &mut ProcessState, slot: u32, transition: &Transition)
     requires { OwnFits slot transition.now process.old }
-    ensures { process.new ≡ own_made slot transition.now process.old }
+    ensures { (tid : ℕ) → option_map (λ t. t.id) (thread_on_slot process.old.slots slot) ≡ Some tid → process.new ≡ own_made tid slot transition.now process.old }
 {
+    let tid = process.id_on(slot);
+    change_onces(&mut process.onces, tid, transition.own);
     move_own(&mut process.threads, slot, transition);
     change_data(&mut process.keys, slot, transition.own);
     write_globals(&mut process.globals, &transition.writes);
@@ -35,6 +38,16 @@ fn change_data(keys: &mut Keys, slot: u32, action: Option<OwnAction>)
         Some(OwnAction::BeginPass) => keys.begin_pass(slot),
         Some(OwnAction::RunDestructor { key, .. }) => keys.take_out(slot, key_place(key)),
         _ => {}
+    }
+}
+
+// Makes the change of the action of the thread with this id, if it has one, in the once controls.
+#[tactic(auto, unfolding(pct_model::specs::Actions::onces_after))]
+fn change_onces(onces: &mut OnceControls, tid: u32, action: Option<OwnAction>)
+    ensures { onces.new ≡ onces_after tid action onces.old }
+{
+    if let Some(OwnAction::BeginEnd(_)) = action {
+        onces.abandon(tid);
     }
 }
 

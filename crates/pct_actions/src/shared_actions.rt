@@ -36,6 +36,7 @@ fn act_on_shared(process: &mut ProcessState, action: Option<SharedAction>)
         Some(SharedAction::DeleteKey(key)) => delete_key(process, key),
         Some(SharedAction::OwnMutex(mutex, id)) => process.owners.set(mutex, id),
         Some(SharedAction::SetCount(sem, count)) => process.counts.set(sem, count),
+        Some(SharedAction::SetOnce(once, state)) => process.onces.set(once, state),
         Some(SharedAction::AddForkHandlers(handlers)) => process.fork_handlers.push(handlers),
         Some(SharedAction::AddExit(func)) => process.exit_functions.push(func),
         Some(SharedAction::TakeExit) => process.exit_functions.pop(),

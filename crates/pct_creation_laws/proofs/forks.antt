@@ -2,4 +2,5 @@
 pub mod LeftHandlers
 pub mod ForkSteps
 pub mod KeptForks
+pub mod ReturnedForks
 pub mod CalledHandlers

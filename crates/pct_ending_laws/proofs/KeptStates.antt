@@ -57,6 +57,8 @@ use Rattle.pct_thread_invariants.proofs.lift.MovedThreads.{each_step}
 use Rattle.pct_ending_laws.proofs.steps.NamedWaits.{suspends_of_run, continues_of_run}
 use Rattle.pct_ending_laws.proofs.StepsOfRuns.{steps_of_run}
 use Rattle.pct_ending_laws.proofs.steps.SaidStatements.{says_statements_of_run}
+use Rattle.pct_once_laws.proofs.OncesOfRun.{onces_kept, routines_kept}
+use Rattle.pct_once_laws.proofs.RoutineReturns.{once_law}
 use Rattle.pct_wake_laws.proofs.SharedChanges.{shared_law}
 use Rattle.pct_wake_laws.proofs.WakeLawKept.{wake_law}
 use Rattle.pct_cancel_laws.proofs.waits.WaitsOfRun.{waits_of_run, hand_ons_of_run, calls_of_run, waits_kept_of_run}
@@ -123,6 +125,7 @@ every_run_keeps_laws script config entries r is = record {
   forks = each_step script config (KeepsFork script) (fork_handlers_of_run script config) entries;
   joins = joins_of_run script config entries r is;
   conds = each_both (λ e earlier. owners_allow e earlier && waits_allow e earlier) hand_ons_allow r.events (each_both owners_allow waits_allow r.events (owners_of_run script config entries r is) (waits_of_run script config entries r is)) (hand_ons_of_run script config entries r is);
+  controls = once_law script config entries r is;
   wakes = wake_law script config entries;
   shared = shared_law script config entries;
   creations = slots_of_run script config entries r is;
@@ -152,6 +155,8 @@ every_state_is_kept script config entries r is = record {
   detached = detached_of_run script config entries r is;
   joins = kept_joins_of_run script config entries r is;
   owners = owners_kept script config entries r is;
+  onces = onces_kept script config entries r is;
+  routines = routines_kept script config entries r is;
   waits = waits_kept_of_run script config entries r is;
   calls_release = calls_of_run script config entries r is;
   last = λ pid p made tid t found here exits. last_kept script config entries r is pid p made tid t found here exits.ended exits.exits;

@@ -166,7 +166,7 @@ module _ (keys : List KeyPlace) (reported : ℕ → Bool) (fits : AreReported ke
 module _ (script : Script) (passes : ℕ) (body : List Stmt) (shared : SharedState) (t : Thread) (environment : Environment) (kept : KeysKept script shared.keys) (e : Entry) where
   -- the keys after a transition
   case_reported : (reported : ℕ → Bool) → AreReported shared.keys reported → {next : NextStatement} {s : Status} {o : Transition} → TransitionCase passes body shared t environment true next s o
-      → AreReported (shared_moved o shared).keys (λ n. after_own (has n) (map (event_of e) (reverse o.events)) (reported n))
+      → AreReported (shared_moved e.tid o shared).keys (λ n. after_own (has n) (map (event_of e) (reverse o.events)) (reported n))
   unfolding shared_after
   case_reported reported fits (key_made frame result key destructor k among) = made_reported shared.keys reported fits script kept k destructor (among refl)
   case_reported reported fits (key_deleted frame key some) = deleted_reported shared.keys reported fits (value_of shared.globals frame key) some

@@ -32,12 +32,14 @@ ghost use Rattle.pct_ending_laws.specs.EndingLaws.{RunsKeepLaws, StatesAreKept};
 /// - Each mutex is acquired while no thread owns it, and released by its owner; a condition wait that released its mutex goes on
 ///   only as its thread acquires it again and returns, or acts upon a request, acquires the mutex and then begins to end; a
 ///   signal is handed on only directly after a request was acted upon in a wait.
+/// - The init routine of a once control is called only while no call of it is in progress and none has returned, it returns in the
+///   thread that called it, and a call of pthread_once that does not call it returns after one return of it.
 /// - A signal unblocks a thread that waits on its condition variable, if one does, and a broadcast each that does; each goes for the
 ///   mutex of its wait, and no other thread is unblocked. A thread that a signal unblocked, and that acts upon a request, hands the
 ///   signal on if another one waits. A step changes nothing of another thread but its status by these events, a request, that it is
 ///   detached or joined, and its values of a deleted key.
-/// - Owners of mutexes and counts of semaphores change by the events that say so; atexit and pthread_atfork register what they name,
-///   unless they fail, and no other step registers anything; each exit takes the newest exit function away as it calls it.
+/// - Owners of mutexes, counts of semaphores and once controls change by the events that say so; atexit and pthread_atfork register what
+///   they name, unless they fail, and no other step registers anything; each exit takes the newest exit function away as it calls it.
 /// - A new thread gets an id that no thread of its process had, on a slot on which each earlier thread has ended and was joined
 ///   or is detached.
 /// - A process makes no event after its end, and is made by one fork, before its first event; exit begins once in it, and the

@@ -90,7 +90,7 @@ with_slots p shared slots = record p { slots = slots; shared = shared }
 
 -- the process of the thread, before the actions of its own
 abbrev with_thread : ℕ → Transition → Process → Process
-with_thread tid o p = record p { threads = threads_moved tid o p.threads; shared = shared_moved o p.shared }
+with_thread tid o p = record p { threads = threads_moved tid o p.threads; shared = shared_moved tid o p.shared }
 
 -- the process of the thread after the transition
 pub own_kept_after : (slots tid : ℕ) (o : Transition) (p : Process) → 0 < slots → was_reaped p.ended ≡ false → kept slots (changed tid o p) ≡ own_process_seen slots tid o (seen_process slots p)
@@ -98,7 +98,7 @@ own_kept_after slots tid o p some e =
     own_action_kept slots o.process (with_thread tid o p) (λ reaped. absurd (true≢false (sym reaped ∙ e)))
     ∙ ap (flat_map (own_kept o.process)) (kept_whole slots (with_thread tid o p) e)
     ∙ append-nil (own_kept o.process (seen_process slots (with_thread tid o p)))
-    ∙ ap (λ (rows : List SeenSlot). own_kept o.process (with_slots (seen_process slots p) (shared_moved o p.shared) rows)) (slots_after slots tid o p.threads some)
+    ∙ ap (λ (rows : List SeenSlot). own_kept o.process (with_slots (seen_process slots p) (shared_moved tid o p.shared) rows)) (slots_after slots tid o p.threads some)
 
 -- another process, which is not reaped, after the transition
 pub other_kept_after : (slots pid : ℕ) (o : Transition) (p : Process) → was_reaped p.ended ≡ false → kept slots (other_process_after pid o.process p) ≡ other_process_seen pid o (seen_process slots p)
@@ -150,7 +150,7 @@ module _ (slots pid tid : ℕ) (o : Transition) where
   child_after child p some =
       ap (seen_process slots) (same_child tid child o.process (with_thread tid o p))
       ∙ child_is_seen slots tid child (with_thread tid o p) some
-      ∙ ap (λ (rows : List SeenSlot). child_seen tid child (with_slots (seen_process slots p) (shared_moved o p.shared) rows)) (slots_after slots tid o p.threads some)
+      ∙ ap (λ (rows : List SeenSlot). child_seen tid child (with_slots (seen_process slots p) (shared_moved tid o p.shared) rows)) (slots_after slots tid o p.threads some)
 
   child_by_action : (p : Process) (a : Option ProcessAction) → 0 < slots → map (seen_process slots) (child_by tid (changed tid o p) a) ≡ child_seen_by tid (process_seen slots tid o (seen_process slots p)) a
   unfolding child_by child_seen_by

@@ -200,7 +200,7 @@ own_few n made tid o p makes has =
     let small = λ (t : Thread). t.id ≤ 64 + 64 * n in
     let kept : All small moved = All-map small (thread_moved tid o) p.threads (All-weaker small (λ t. (thread_moved tid o t).id ≤ 64 + 64 * n) (λ t id. subst (λ (k : ℕ). k ≤ 64 + 64 * n) (sym ((transition_keeps tid o).same_id t)) id) p.threads has.ids) in
     let all : All small (threads_moved tid o p.threads) = All-append small moved (thread_created o.created) kept (small_created (64 + 64 * n) o.created makes.thread) in
-    subst (HasFewBy (n + 1)) (sym (own_same o.process (record p { threads = threads_moved tid o p.threads; shared = shared_moved o p.shared })))
+    subst (HasFewBy (n + 1)) (sym (own_same o.process (record p { threads = threads_moved tid o p.threads; shared = shared_moved tid o p.shared })))
     (record {
       pid_few = omega (arith, has.pid_few);
       few = omega (arith, length-append moved (thread_created o.created), length-map p.threads (thread_moved tid o), few_created o.created, has.few);
@@ -239,7 +239,7 @@ record MadeWithin (n next : ℕ) (made : List Process) : Type 0 where
   each : All (HasFewIn n) made
 
 pid_if : (pid tid : ℕ) (o : Transition) (p : Process) (own : Bool) → (cond own (changed tid o p) (other_process_after pid o.process p)).pid ≡ p.pid
-pid_if pid tid o p true = ap (λ (parts : ℕ × List Thread × List KeyPlace). parts.0) (own_same o.process (record p { threads = threads_moved tid o p.threads; shared = shared_moved o p.shared }))
+pid_if pid tid o p true = ap (λ (parts : ℕ × List Thread × List KeyPlace). parts.0) (own_same o.process (record p { threads = threads_moved tid o p.threads; shared = shared_moved tid o p.shared }))
 pid_if pid tid o p false = ap (λ (parts : ℕ × List Thread × List KeyPlace). parts.0) (other_same pid o.process p)
 
 few_if : (n made pid tid : ℕ) (o : Transition) (p : Process) (own : Bool) → MakesWithin n made o → HasFewIn n p → HasFewIn (n + 1) (cond own (changed tid o p) (other_process_after pid o.process p))

@@ -101,7 +101,7 @@ other_kept pid _ p = p ∷ []
 
 -- the process of the thread after the transition, but for its end
 abbrev pub process_seen : ℕ → ℕ → Transition → SeenProcess → SeenProcess
-process_seen slots tid o p = record p { slots = slots_moved slots tid o p.slots; shared = shared_moved o p.shared }
+process_seen slots tid o p = record p { slots = slots_moved slots tid o p.slots; shared = shared_moved tid o p.shared }
 
 -- the process of the thread after the transition, with this number of slots
 abbrev pub own_process_seen : ℕ → ℕ → Transition → SeenProcess → List SeenProcess

@@ -57,6 +57,7 @@ abbrev pub is_plain_kind : SymbolKind → Bool
 is_plain_kind kind.Global = true
 is_plain_kind kind.Mutex = true
 is_plain_kind kind.Cond = true
+is_plain_kind kind.Once = true
 is_plain_kind _ = false
 
 -- a line that declares a name alone parses back

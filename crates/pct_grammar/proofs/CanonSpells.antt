@@ -109,10 +109,11 @@ functions_parse c (f ∷ funcs) p have =
 abbrev with_declarations : Contents → List ParsedLine → List ParsedLine
 with_declarations c functions =
     map (declared_line kind.Global) (declarations c kind.Global) ++ (map (declared_line kind.Mutex) (declarations c kind.Mutex)
-    ++ (map (declared_line kind.Cond) (declarations c kind.Cond) ++ (map (declared_line kind.Sem) (declarations c kind.Sem) ++ functions)))
+    ++ (map (declared_line kind.Cond) (declarations c kind.Cond) ++ (map (declared_line kind.Sem) (declarations c kind.Sem)
+    ++ (map (declared_line kind.Once) (declarations c kind.Once) ++ functions))))
 
-regrouped : {A : Type 0} (v w x y z : List A) → (((v ++ w) ++ x) ++ y) ++ z ≡ v ++ (w ++ (x ++ (y ++ z)))
-regrouped v w x y z = simp append_assoc
+regrouped : {A : Type 0} (u v w x y z : List A) → ((((u ++ v) ++ w) ++ x) ++ y) ++ z ≡ u ++ (v ++ (w ++ (x ++ (y ++ z))))
+regrouped u v w x y z = simp append_assoc
 
 names_parse : (k : SymbolKind) (names : List (List ℕ)) → is_plain_kind k ≡ true → list_all is_name names ≡ true
     → ParseAll (map (λ (name : List ℕ). declaration_line k (name ∷ [])) names) (map (declared_line k) (map (λ (name : List ℕ). token.Name name ∷ []) names))
@@ -130,17 +131,13 @@ all_parses c p functions line_parses =
     group_parses kind.Sem (λ (s : SemDecl). s.name ∷ decimal s.count ∷ []) (λ (s : SemDecl). token.Name s.name ∷ token.Number s.count ∷ []) (λ (s : SemDecl). is_name s.name && nat_le s.count 32767)
     (λ s ok. let sections = and_parts (is_name s.name) (nat_le s.count 32767) ok in sem_parses s.name s.count sections.0 (leb-true s.count 32767 sections.1)) c.sems p.sems
     in
-    let from_sems = both sem_lines function_text sems_said functions of_sems line_parses in
-    let from_conds = both (resolve_name kind.Cond c.conds) (sem_lines ++ function_text) (parsed kind.Cond c.conds) (sems_said ++ functions) (names_parse kind.Cond c.conds refl p.conds) from_sems in
-    let from_mutexes =
-    both (resolve_name kind.Mutex c.mutexes) (resolve_name kind.Cond c.conds ++ (sem_lines ++ function_text)) (parsed kind.Mutex c.mutexes) (parsed kind.Cond c.conds ++ (sems_said ++ functions))
-    (names_parse kind.Mutex c.mutexes refl p.mutexes) from_conds
-    in
-    let from_globals =
-    both (resolve_name kind.Global c.globals) (resolve_name kind.Mutex c.mutexes ++ (resolve_name kind.Cond c.conds ++ (sem_lines ++ function_text)))
-    (parsed kind.Global c.globals) (parsed kind.Mutex c.mutexes ++ (parsed kind.Cond c.conds ++ (sems_said ++ functions))) (names_parse kind.Global c.globals refl p.globals) from_mutexes
-    in
-    subst (λ (lines : List (List (List ℕ))). ParseAll lines (with_declarations c functions)) (sym (regrouped (resolve_name kind.Global c.globals) (resolve_name kind.Mutex c.mutexes) (resolve_name kind.Cond c.conds) sem_lines function_text)) from_globals
+    let from_onces = both (resolve_name kind.Once c.onces) function_text (parsed kind.Once c.onces) functions (names_parse kind.Once c.onces refl p.onces) line_parses in
+    let from_sems = both sem_lines _ sems_said _ of_sems from_onces in
+    let from_conds = both (resolve_name kind.Cond c.conds) _ (parsed kind.Cond c.conds) _ (names_parse kind.Cond c.conds refl p.conds) from_sems in
+    let from_mutexes = both (resolve_name kind.Mutex c.mutexes) _ (parsed kind.Mutex c.mutexes) _ (names_parse kind.Mutex c.mutexes refl p.mutexes) from_conds in
+    let from_globals = both (resolve_name kind.Global c.globals) _ (parsed kind.Global c.globals) _ (names_parse kind.Global c.globals refl p.globals) from_mutexes in
+    subst (λ (lines : List (List (List ℕ))). ParseAll lines (with_declarations c functions))
+    (sym (regrouped (resolve_name kind.Global c.globals) (resolve_name kind.Mutex c.mutexes) (resolve_name kind.Cond c.conds) sem_lines (resolve_name kind.Once c.onces) function_text)) from_globals
 
 -- what the declarations of one kind declare of another
 abbrev of_kind : Contents → SymbolKind → SymbolKind → List (List Token)
@@ -152,8 +149,9 @@ one_kind c k other rest words e =
     both_declare k (map (declared_line other) (declarations c other)) rest ∙ ap (λ ws. ws ++ words_declared k rest) (kinds_declare k other (declarations c other)) ∙ ap (λ ws. of_kind c k other ++ ws) e
 
 in_turn : (c : Contents) (functions : List ParsedLine) (k : SymbolKind) → words_declared k (with_declarations c functions)
-    ≡ of_kind c k kind.Global ++ (of_kind c k kind.Mutex ++ (of_kind c k kind.Cond ++ (of_kind c k kind.Sem ++ words_declared k functions)))
-in_turn c functions k = one_kind c k kind.Global _ _ (one_kind c k kind.Mutex _ _ (one_kind c k kind.Cond _ _ (one_kind c k kind.Sem functions _ refl)))
+    ≡ of_kind c k kind.Global ++ (of_kind c k kind.Mutex ++ (of_kind c k kind.Cond ++ (of_kind c k kind.Sem ++ (of_kind c k kind.Once ++ words_declared k functions))))
+in_turn c functions k =
+    one_kind c k kind.Global _ _ (one_kind c k kind.Mutex _ _ (one_kind c k kind.Cond _ _ (one_kind c k kind.Sem _ _ (one_kind c k kind.Once functions _ refl))))
 
 declared_all : (c : Contents) (functions : List ParsedLine) → ((k : SymbolKind) → words_declared k functions ≡ cond (is_same k kind.Function) (outlines_of c.funcs) [])
     → (k : SymbolKind) → words_declared k (with_declarations c functions) ≡ declarations c k
@@ -163,13 +161,15 @@ declared_all c functions parsed k = in_turn c functions k ∙ ap (λ ws. declara
 
 after_all : (c : Contents) (functions : List ParsedLine) → ((n : ℕ) → StatementsThen c (split_sections (enumerate_from n functions)) [] c.funcs) → (n : ℕ) → StatementsThen c (split_sections (enumerate_from n (with_declarations c functions))) [] c.funcs
 after_all c functions after n =
-    let sems = map (declared_line kind.Sem) (declarations c kind.Sem) ++ functions in
+    let onces = map (declared_line kind.Once) (declarations c kind.Once) ++ functions in
+    let sems = map (declared_line kind.Sem) (declarations c kind.Sem) ++ onces in
     let conds = map (declared_line kind.Cond) (declarations c kind.Cond) ++ sems in
     let mutexes = map (declared_line kind.Mutex) (declarations c kind.Mutex) ++ conds in
     kinds_after c c.funcs kind.Global (declarations c kind.Global) mutexes n refl (λ n1.
     kinds_after c c.funcs kind.Mutex (declarations c kind.Mutex) conds n1 refl (λ n2.
     kinds_after c c.funcs kind.Cond (declarations c kind.Cond) sems n2 refl (λ n3.
-    kinds_after c c.funcs kind.Sem (declarations c kind.Sem) functions n3 refl after)))
+    kinds_after c c.funcs kind.Sem (declarations c kind.Sem) onces n3 refl (λ n4.
+    kinds_after c c.funcs kind.Once (declarations c kind.Once) functions n4 refl after))))
 
 are_contents : (c : Contents) (functions : List ParsedLine) → ((k : SymbolKind) → words_declared k functions ≡ cond (is_same k kind.Function) (outlines_of c.funcs) [])
     → ((n : ℕ) → StatementsThen c (split_sections (enumerate_from n functions)) [] c.funcs) → AreContents (enumerate_from 1 (with_declarations c functions)) c

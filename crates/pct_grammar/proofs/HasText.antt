@@ -74,5 +74,6 @@ has_text_law lines c from are =
     let b = list_all is_name c.mutexes in
     let d = list_all is_name c.conds in
     let e = list_all is_sem c.sems in
-    and_from (a && b && d && e) (list_all (has_lines c) c.funcs)
-    (and_from (a && b && d) e (and_from (a && b) d (and_from a b (names kind.Global) (names kind.Mutex)) (names kind.Cond)) sems) funcs
+    let f = list_all is_name c.onces in
+    let before = and_from (a && b && d) e (and_from (a && b) d (and_from a b (names kind.Global) (names kind.Mutex)) (names kind.Cond)) sems in
+    and_from (a && b && d && e && f) (list_all (has_lines c) c.funcs) (and_from (a && b && d && e) f before (names kind.Once)) funcs

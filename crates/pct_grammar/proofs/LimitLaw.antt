@@ -165,20 +165,23 @@ abbrev either : Rule → Rule → Rule
 either r s = λ before line. r before line || s before line
 
 abbrev kinds : Rule
-kinds = either (either (either (either (by_kind kind.Global) (by_kind kind.Mutex)) (by_kind kind.Cond)) (by_kind kind.Sem)) (by_kind kind.Function)
+kinds = either (either (either (either (either (by_kind kind.Global) (by_kind kind.Mutex)) (by_kind kind.Cond)) (by_kind kind.Sem)) (by_kind kind.Once)) (by_kind kind.Function)
 
 none_either : (r s : Rule) (items : List ParsedLine) (t u : Bool) → none_wrong r [] items ≡ t → none_wrong s [] items ≡ u → none_wrong (either r s) [] items ≡ (t && u)
 none_either r s items t u e f = none_or r s [] items ∙ ap (λ (b : Bool). b && none_wrong s [] items) e ∙ ap (λ (b : Bool). t && b) f
 
 kinds_within : (lines : List Line) (c : Contents) → AreContents lines c
-    → none_wrong kinds [] (parsed_each lines) ≡ (is_within c kind.Global && is_within c kind.Mutex && is_within c kind.Cond && is_within c kind.Sem && is_within c kind.Function)
+    → none_wrong kinds [] (parsed_each lines)
+    ≡ (is_within c kind.Global && is_within c kind.Mutex && is_within c kind.Cond && is_within c kind.Sem && is_within c kind.Once && is_within c kind.Function)
 kinds_within lines c are =
     let within = kind_within lines c are in
     let all = parsed_each lines in
     none_either _ _ all _ _
     (none_either _ _ all _ _
+    (none_either _ _ all _ _
     (none_either _ _ all _ _ (none_either (by_kind kind.Global) (by_kind kind.Mutex) all _ _ (within kind.Global) (within kind.Mutex)) (within kind.Cond))
     (within kind.Sem))
+    (within kind.Once))
     (within kind.Function)
 
 -- the check finds no fault if and only if the script keeps the limits
@@ -186,7 +189,9 @@ pub limits_law : (lines : List Line) (c : Contents) → AreContents lines c → 
 unfolding too_many exceeds_limit keeps_limits
 limits_law lines c are =
     let all = parsed_each lines in
-    let within_all = is_within c kind.Global && is_within c kind.Mutex && is_within c kind.Cond && is_within c kind.Sem && is_within c kind.Function in
+    let within_all =
+    is_within c kind.Global && is_within c kind.Mutex && is_within c kind.Cond && is_within c kind.Sem && is_within c kind.Once && is_within c kind.Function
+    in
     let short = nat_le (statement_lines c.funcs) 2000 in
     let statements : none_wrong (exceeds is_statement 2000) [] all ≡ short = none_passes is_statement 2000 all ∙ ap (λ n. nat_le n 2000) (statements_count lines c are) in
     line_none TooMany (first_wrong exceeds_limit [] lines) ∙ first_wrong_none exceeds_limit [] lines

@@ -130,7 +130,7 @@ abbrev times_of : List ℕ → List Line → SymbolKind → ℕ
 times_of w lines k = times w (names_declared lines k)
 
 abbrev times_in_kinds : (SymbolKind → ℕ) → ℕ
-times_in_kinds n = n kind.Global + n kind.Mutex + n kind.Cond + n kind.Sem + n kind.Function
+times_in_kinds n = n kind.Global + n kind.Mutex + n kind.Cond + n kind.Sem + n kind.Once + n kind.Function
 
 abbrev declared_of : List Line → List (List ℕ)
 declared_of lines = flat_map (λ (l : Line). declared_by l.1) lines
@@ -161,15 +161,16 @@ in_all_names w c =
     let b = c.mutexes in
     let d = c.conds in
     let e = map (λ s. s.name) c.sems in
-    let f = names_of c.funcs in
-    omega (arith, times-append w (a ++ b ++ d ++ e) f, times-append w (a ++ b ++ d) e, times-append w (a ++ b) d, times-append w a b)
+    let f = c.onces in
+    let g = names_of c.funcs in
+    omega (arith, times-append w (a ++ b ++ d ++ e ++ f) g, times-append w (a ++ b ++ d ++ e) f, times-append w (a ++ b ++ d) e, times-append w (a ++ b) d, times-append w a b)
 
 same_times : (lines : List Line) (c : Contents) → AreContents lines c → (w : List ℕ) → times w (declared_in (map (λ l. l.1) (headers lines))) ≡ times w (all_names c)
 same_times lines c are w =
     let each : (k : SymbolKind) → times_of w (headers lines) k ≡ times w (names_of_kind c k) =
     λ k. ap (λ (ls : List Line). times w (declared_of ls)) (declaring_headers k lines) ∙ ap (times w) (names_from lines c k (are.declared k)) in
     let kinds : times_in_kinds (times_of w (headers lines)) ≡ times_in_kinds (λ k. times w (names_of_kind c k)) =
-    omega (arith, each kind.Global, each kind.Mutex, each kind.Cond, each kind.Sem, each kind.Function) in
+    omega (arith, each kind.Global, each kind.Mutex, each kind.Cond, each kind.Sem, each kind.Once, each kind.Function) in
     ap (times w) (declared_in_headers (headers lines)) ∙ in_kinds w (sections_of lines) (are_sections lines).sections_are ∙ kinds ∙ sym (in_all_names w c)
 
 -- ---- locals

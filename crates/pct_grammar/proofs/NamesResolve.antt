@@ -128,7 +128,7 @@ headers_read names (section ∷ sections) funcs h =
 
 -- the contents with these functions
 abbrev contents_with : List Line → List Func → Contents
-contents_with lines funcs = record { globals = names_declared lines kind.Global; mutexes = names_declared lines kind.Mutex; conds = names_declared lines kind.Cond; sems = sems_in lines; funcs = funcs }
+contents_with lines funcs = record { globals = names_declared lines kind.Global; mutexes = names_declared lines kind.Mutex; conds = names_declared lines kind.Cond; sems = sems_in lines; onces = names_declared lines kind.Once; funcs = funcs }
 
 all_declared : (lines : List Line) (funcs : List Func) → EachParsed lines → resolve_functions (names_declared lines) (functions_in lines) ≡ Some funcs → (k : SymbolKind)
     → map (λ l. l.1.tokens) (declaring k lines) ≡ declarations (contents_with lines funcs) k
@@ -200,7 +200,7 @@ contents_read lines c are =
     let found : resolve_functions (names_declared lines) (functions_in lines) ≡ Some c.funcs =
     ap (λ (n : SymbolKind → List (List ℕ)). resolve_functions n (functions_in lines)) names ∙ functions_read c (functions_in lines) c.funcs (functions_resolve lines c are) in
     ap (option_map (contents_with lines)) found
-    ∙ ap (λ (n : SymbolKind → List (List ℕ)). Some (record c { globals = n kind.Global; mutexes = n kind.Mutex; conds = n kind.Cond; sems = sems_in lines })) names
+    ∙ ap (λ (n : SymbolKind → List (List ℕ)). Some (record c { globals = n kind.Global; mutexes = n kind.Mutex; conds = n kind.Cond; sems = sems_in lines; onces = n kind.Once })) names
     ∙ ap (λ (sems : List SemDecl). Some (record c { sems = sems })) (sems_from lines c (are.declared kind.Sem))
 
 -- no name is unknown in lines that spell contents

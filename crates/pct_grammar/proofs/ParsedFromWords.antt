@@ -84,7 +84,7 @@ new_locals : (n : ℕ) → list_all is_new_name (replicate n argument_kind.Local
 new_locals zero = refl
 new_locals (suc n) = new_locals n
 
--- the tokens of a declaration of a global, a mutex or a condition variable
+-- the tokens of a declaration of a global, a mutex, a condition variable or a once control
 pub record DeclaresName (words : List Token) : Type 0 where
   pub name : List ℕ
   pub is : is_name name ≡ true
@@ -113,6 +113,7 @@ Declares kind.Global words = DeclaresName words
 Declares kind.Mutex words = DeclaresName words
 Declares kind.Cond words = DeclaresName words
 Declares kind.Sem words = DeclaresSem words
+Declares kind.Once words = DeclaresName words
 Declares kind.Function words = DeclaresFunction words
 
 name_alone : (ws : List (List ℕ)) (words : List Token) → tokens_at (argument_kind.Declared ∷ []) ws ≡ Some words → DeclaresName words
@@ -153,6 +154,7 @@ same_kind kind.Global kind.Global h = refl
 same_kind kind.Mutex kind.Mutex h = refl
 same_kind kind.Cond kind.Cond h = refl
 same_kind kind.Sem kind.Sem h = refl
+same_kind kind.Once kind.Once h = refl
 same_kind kind.Function kind.Function h = refl
 same_kind k other h = absurd cc
 

@@ -132,7 +132,7 @@ known_is_read text faultless =
 
 -- the script of static contents
 abbrev pub script_of : (c : Contents) → is_static c ≡ true → Script
-script_of c static = record { globals = c.globals; mutexes = c.mutexes; conds = c.conds; sems = c.sems; funcs = c.funcs; passes_checks = static }
+script_of c static = record { globals = c.globals; mutexes = c.mutexes; conds = c.conds; sems = c.sems; onces = c.onces; funcs = c.funcs; passes_checks = static }
 
 spelled_as : (text : List ℕ) (c : Contents) → SpellsStatic text c → (script : Script) × Spells text script
 spelled_as text c spells = (script_of c spells.static, spells.spells)

@@ -99,6 +99,7 @@ decode line_kind.Broadcast arguments = statement.Broadcast (item_in (at argument
 decode line_kind.SemWait arguments = statement.SemWait (item_in (at arguments 0))
 decode line_kind.SemTimedWait arguments = statement.SemTimedWait (dest_in (at arguments 0)) (item_in (at arguments 1))
 decode line_kind.SemPost arguments = statement.SemPost (item_in (at arguments 0))
+decode line_kind.CallOnce arguments = statement.CallOnce (item_in (at arguments 0)) (item_in (at arguments 1))
 decode line_kind.AtFork arguments = statement.AtFork (dest_in (at arguments 0)) (optional_in (at arguments 1)) (optional_in (at arguments 2)) (optional_in (at arguments 3))
 decode line_kind.Fork arguments = statement.Fork (dest_in (at arguments 0)) (dest_in (at arguments 1))
 decode line_kind.WaitPid arguments = statement.WaitPid (dest_in (at arguments 0)) (value_in (at arguments 1)) (dest_in (at arguments 2))
@@ -151,5 +152,5 @@ sems_in lines = filter_map (λ l. sem_in l.1.tokens) (declaring kind.Sem lines)
 -- the contents of the script
 unfoldable pub resolve_contents : List Line → Option Contents
 resolve_contents lines =
-    option_map (λ funcs. record { globals = names_declared lines kind.Global; mutexes = names_declared lines kind.Mutex; conds = names_declared lines kind.Cond; sems = sems_in lines; funcs = funcs })
+    option_map (λ funcs. record { globals = names_declared lines kind.Global; mutexes = names_declared lines kind.Mutex; conds = names_declared lines kind.Cond; sems = sems_in lines; onces = names_declared lines kind.Once; funcs = funcs })
     (resolve_functions (names_declared lines) (functions_in lines))

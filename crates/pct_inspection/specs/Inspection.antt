@@ -174,7 +174,7 @@ pub record ListsChoices (words : List (List ℕ)) (input : List ℕ) (code : ℕ
   pub waits_are : (l : ListedThread) → Contains (listed_threads prefix.script prefix.config prefix.after.world) l → IsBlockedIfWaiting l
   pub lines_are : LinesSpell (script_in input) prefix.script
 
--- `states`: the state after the run, with the values of variables, mutexes, semaphores and keys and what is registered, and the notice
+-- `states`: the state after the run, with the values of variables, mutexes, semaphores, keys and once controls, and what is registered, and the notice
 pub record ListsStates (words : List (List ℕ)) (input : List ℕ) (code : ℕ) (text : List ℕ) : Type 0 where
   pub asked : inspection_asked words ≡ Some (inspection.Show view.States)
   pub prefix : FollowsPrefix input

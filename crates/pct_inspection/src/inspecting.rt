@@ -30,8 +30,8 @@ use std::alloc::Global;
 /// - `choices`: the verdict is written; then, for each thread that has not ended, where it is, what it waits for, its cancelability and its
 ///   handlers, and below it each entry of worker 1 that is legal.
 /// - `states`: the verdict is written; then, for each process that has not ended, its globals, its mutexes with their owners, its semaphores
-///   with their counts, its keys, and what it has registered; and below it, for each thread that has not ended, its frames with their locals,
-///   its thread-specific data, and whether it is detached.
+///   with their counts, its keys, what it has registered, and its once controls that are busy or done; and below it, for each thread that has
+///   not ended, its frames with their locals, its thread-specific data, and whether it is detached.
 /// - `lanes`, `picture`: the steps are written with a column for each thread, as text or as SVG. After the command words may select steps:
 ///   `--steps FROM-TO`, `--threads P.T,P.T..` and `--events`.
 ///

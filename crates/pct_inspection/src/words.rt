@@ -23,7 +23,7 @@ pub enum Form {
 pub enum View {
     /// Where each thread is, what it waits for, and its legal entries.
     Choices,
-    /// The values of variables, mutexes, semaphores and keys, and what is registered.
+    /// The values of variables, mutexes, semaphores, keys and once controls, and what is registered.
     States,
     /// The steps.
     Steps(Form),

@@ -64,7 +64,7 @@ opening_is jumps script func pc made =
 -- ---- bodies of a script
 
 abbrev sections_of : Script → Contents
-sections_of script = record { globals = script.globals; mutexes = script.mutexes; conds = script.conds; sems = script.sems; funcs = script.funcs }
+sections_of script = record { globals = script.globals; mutexes = script.mutexes; conds = script.conds; sems = script.sems; onces = script.onces; funcs = script.funcs }
 
 nests_by : (funcs : List Func) (func pc : ℕ) (test : Stmt → Bool) → list_all nests funcs ≡ true → holds (option_map_or (λ f. f.body) (slice_get funcs func) []) test pc ≡ true → are_nested (block.Function ∷ []) (map role_of (option_map_or (λ f. f.body) (slice_get funcs func) [])) ≡ true
 nests_by [] func pc test all some = absurd cc

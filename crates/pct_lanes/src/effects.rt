@@ -1,4 +1,4 @@
-//! What the events of a step do to threads and mutexes.
+//! What the events of a step do to threads, mutexes and once controls.
 
 use crate::thread_id::{ThreadId, number_in};
 use crate::trace_lines::word_of;
@@ -24,6 +24,10 @@ pub(crate) enum Event {
     Acquire,
     /// The thread of the step owns a mutex no more.
     Release,
+    /// The thread of the step calls the init routine of a once control.
+    OnceCall,
+    /// The init routine of a once control returns in the thread of the step.
+    OnceDone,
     /// The thread of the step begins to end.
     Ending,
     /// The thread of the step has ended.
@@ -32,18 +36,18 @@ pub(crate) enum Event {
     ProcessEnd,
 }
 
-/// An event of a step that does something to threads or mutexes.
+/// An event of a step that does something to threads, mutexes or once controls.
 #[derive(Clone, Copy)]
 pub(crate) struct Effect<'a> {
     pub(crate) event: Event,
-    /// What it names: a mutex, a condition variable, a number, or how the thread ends.
+    /// What it names: a mutex, a condition variable, a once control, a number, or how the thread ends.
     pub(crate) name: &'a str,
     /// The thread with that number in the process of the step. Of a fork it is the replica, in the process with that number.
     pub(crate) other: ThreadId,
 }
 
-// The first word of each.
-const EVENTS: [(&str, Event); 13] = [
+// The first word of each. The last word of an event of a once control says which of the two it is.
+const EVENTS: [(&str, Event); 14] = [
     ("create", Event::Create),
     ("fork", Event::Fork),
     ("request", Event::Request),
@@ -54,16 +58,20 @@ const EVENTS: [(&str, Event); 13] = [
     ("call", Event::Call),
     ("acquire", Event::Acquire),
     ("release", Event::Release),
+    ("once", Event::OnceCall),
     ("ending", Event::Ending),
     ("ended", Event::Ended),
     ("process_end", Event::ProcessEnd),
 ];
 
 impl<'a> Effect<'a> {
-    /// The effect of this event of a step that the thread `by` makes. It is `None` for an event that concerns no other thread and
-    /// no mutex, and ends nothing.
+    /// The effect of this event of a step that the thread `by` makes. It is `None` for an event that concerns no other thread, no mutex and
+    /// no once control, and ends nothing.
     pub(crate) fn parse(text: &'a str, by: ThreadId) -> Option<Effect<'a>> {
-        let event = find_event(word_of(text, 0))?;
+        let event = match find_event(word_of(text, 0))? {
+            Event::OnceCall if word_of(text, 2) == "done" => Event::OnceDone,
+            event => event,
+        };
         let name = match event {
             Event::Signal => word_of(text, 2),
             _ => word_of(text, 1),

@@ -226,7 +226,7 @@ impl Drawing<'_, '_> {
         let tags = self.layout.tags_below(self.run, owner, index);
         let end = self.layout.tag_end(tags, index);
         let limit = self.layout.tag_limit(index, end);
-        let name = Caption::new(owner.mutex, limit);
+        let name = Caption::new(owner.name, limit);
         let width = text_end(TAG_MARGIN * 2, name.len());
         let baseline = self.layout.baseline(owner.position);
         self.svg.fill(

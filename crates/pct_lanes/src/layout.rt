@@ -209,7 +209,7 @@ impl Layout {
         for owner in run.owners.iter() {
             if let (Some(thread), true) = (owner.thread, self.has_bar(run, owner)) {
                 let tags = self.tags_below(run, owner, thread);
-                let name = owner.mutex.len().min(MUTEX_LIMIT);
+                let name = owner.name.len().min(MUTEX_LIMIT);
                 let characters = tags.characters.saturating_add(name);
                 if let Some(lane) = self.lanes.get_mut(thread) {
                     lane.left = lane.left.max(characters);
@@ -374,9 +374,9 @@ impl Layout {
 
     // ---- tags of mutexes
 
-    /// Whether the rows in which a mutex has this owner have a place in the picture.
+    /// Whether the rows in which a mutex has this owner have a place in the picture. Those in which a once control is busy have none.
     pub(crate) fn has_bar(&self, run: &Run, owner: &Owner) -> bool {
-        self.y(run, owner.first) < self.owner_bottom(run, owner)
+        !owner.is_control && self.y(run, owner.first) < self.owner_bottom(run, owner)
     }
 
     /// Down to where a mutex has this owner.
@@ -408,7 +408,7 @@ impl Layout {
             if owner.thread == Some(thread) && self.has_bar(run, owner) {
                 tags.places |= owner.place;
                 if owner.place < place {
-                    let name = owner.mutex.len().min(MUTEX_LIMIT).saturating_add(1);
+                    let name = owner.name.len().min(MUTEX_LIMIT).saturating_add(1);
                     tags.characters = tags.characters.saturating_add(name);
                 }
             }

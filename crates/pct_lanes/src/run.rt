@@ -63,7 +63,7 @@ pub(crate) struct Run<'a> {
     pub(crate) shown_threads: usize,
     /// What goes between threads, by rising row.
     pub(crate) arrows: Vec<Arrow>,
-    /// Who owns a mutex, and when, by rising first row.
+    /// Who owns a mutex, and when, or when a once control is busy, by rising first row.
     pub(crate) owners: Vec<Owner<'a>>,
     /// When a thread waits, for each thread by rising rows.
     pub(crate) waits: Vec<Wait>,
@@ -216,8 +216,10 @@ impl<'a> Run<'a> {
                 }
             }
             Event::Acquire => self.acquire(index, by.process, effect.name),
-            Event::Release => self.release(index, by.process, effect.name),
+            Event::OnceCall => self.begin_once(index, by.process, effect.name),
+            Event::Release | Event::OnceDone => self.release(index, by.process, effect.name),
             Event::Ending => {
+                self.give_up_controls(index);
                 if let Some(thread) = self.threads.get_mut(index) {
                     thread.is_canceled = effect.name == "canceled";
                 }

@@ -1,18 +1,21 @@
-//! Who owns a mutex, and who waits.
+//! Who owns a mutex, with whom a once control is busy, and who waits.
 
 use crate::kinds::Kind;
 use crate::run::Run;
 use crate::trace_lines::Step;
 
-/// Rows in which a mutex has an owner.
+/// Rows in which a mutex has an owner, or in which a once control is busy.
 #[derive(Clone, Copy)]
 pub(crate) struct Owner<'a> {
     pub(crate) process: usize,
-    pub(crate) mutex: &'a str,
+    /// The name of the mutex, or of the control.
+    pub(crate) name: &'a str,
     /// The index of the thread that owns the mutex. It is `None` in the child of a fork, if that has no such thread.
     pub(crate) thread: Option<usize>,
     /// The place of the mutex beside the lane, as a bit, or 0.
     pub(crate) place: u32,
+    /// Whether it is a once control, which has no bar.
+    pub(crate) is_control: bool,
     /// The row of the step from which on it has the owner.
     pub(crate) first: usize,
     /// The number of rows before that one that are shown.
@@ -35,8 +38,25 @@ pub(crate) struct Wait {
     pub(crate) last: usize,
 }
 
+impl<'a> Owner<'a> {
+    // A mutex or a once control of a process with this name, which no thread has yet.
+    fn new(process: usize, name: &'a str, is_control: bool) -> Owner<'a> {
+        Owner {
+            process,
+            name,
+            thread: None,
+            place: 0,
+            is_control,
+            first: 0,
+            position: 0,
+            group: 0,
+            last: None,
+        }
+    }
+}
+
 impl<'a> Run<'a> {
-    // ---- mutexes
+    // ---- mutexes and once controls
 
     /// The thread with this index owns a mutex of its process.
     pub(crate) fn acquire(&mut self, index: usize, process: usize, mutex: &'a str) {
@@ -44,19 +64,38 @@ impl<'a> Run<'a> {
             Some(thread) => thread.own(),
             None => 0,
         };
-        self.add_owner(process, mutex, Some(index), place);
+        self.add_owner(Owner {
+            thread: Some(index),
+            place,
+            ..Owner::new(process, mutex, false)
+        });
     }
 
-    fn add_owner(&mut self, process: usize, mutex: &'a str, thread: Option<usize>, place: u32) {
+    /// The thread with this index calls the init routine of a once control of its process.
+    pub(crate) fn begin_once(&mut self, index: usize, process: usize, control: &'a str) {
+        self.add_owner(Owner {
+            thread: Some(index),
+            ..Owner::new(process, control, true)
+        });
+    }
+
+    /// The thread with this index begins to end: no once control is busy with it any more.
+    pub(crate) fn give_up_controls(&mut self, index: usize) {
+        let row = self.rows.len();
+        for owner in self.owners.iter_mut() {
+            if owner.is_control && owner.last.is_none() && owner.thread == Some(index) {
+                owner.last = Some(row);
+            }
+        }
+    }
+
+    // Adds an owner from the row on that is added.
+    fn add_owner(&mut self, owner: Owner<'a>) {
         let owner = Owner {
-            process,
-            mutex,
-            thread,
-            place,
             first: self.rows.len(),
             position: self.shown_rows,
             group: self.first_owner(),
-            last: None,
+            ..owner
         };
         let is_added = self.owners.push(owner).is_ok();
         self.note_memory(is_added);
@@ -70,9 +109,9 @@ impl<'a> Run<'a> {
         }
     }
 
-    /// The thread with this index owns a mutex of its process no more.
-    pub(crate) fn release(&mut self, index: usize, process: usize, mutex: &str) {
-        let at = self.open_owner(process, mutex);
+    /// The thread with this index owns a mutex of its process no more, or the init routine of a once control has returned in it.
+    pub(crate) fn release(&mut self, index: usize, process: usize, name: &str) {
+        let at = self.open_owner(process, name);
         let mut place = 0;
         if let Some(owner) = self.owners.get_mut(at) {
             owner.last = Some(self.rows.len());
@@ -83,13 +122,13 @@ impl<'a> Run<'a> {
         }
     }
 
-    // The index of the last owner that has this mutex still. If there is none it is past all owners.
-    fn open_owner(&self, process: usize, mutex: &str) -> usize {
+    // The index of the last owner that has this mutex or once control still. If there is none it is past all owners.
+    fn open_owner(&self, process: usize, name: &str) -> usize {
         let count = self.owners.len();
         for after in 0..count {
             let at = count.saturating_sub(after).saturating_sub(1);
             if let Some(owner) = self.owners.get(at) {
-                if owner.last.is_none() && owner.process == process && owner.mutex == mutex {
+                if owner.last.is_none() && owner.process == process && owner.name == name {
                     return at;
                 }
             }
@@ -97,7 +136,8 @@ impl<'a> Run<'a> {
         count
     }
 
-    /// In the child of a fork the mutexes have owners as in the parent: the thread that forked is its replica.
+    /// In the child of a fork the mutexes have owners as in the parent, and the once controls are busy as there: the thread that forked is its
+    /// replica.
     pub(crate) fn copy_owners(
         &mut self,
         parent: usize,
@@ -108,10 +148,13 @@ impl<'a> Run<'a> {
         for at in 0..self.owners.len() {
             if let Some(owner) = self.owners.get(at).copied() {
                 let is_open = owner.last.is_none() && owner.process == parent_process;
-                if is_open && owner.thread == Some(parent) {
-                    self.acquire(replica, process, owner.mutex);
+                let is_replica = owner.thread == Some(parent);
+                if is_open && is_replica && owner.is_control {
+                    self.begin_once(replica, process, owner.name);
+                } else if is_open && is_replica {
+                    self.acquire(replica, process, owner.name);
                 } else if is_open {
-                    self.add_owner(process, owner.mutex, None, 0);
+                    self.add_owner(Owner::new(process, owner.name, owner.is_control));
                 }
             }
         }
@@ -124,11 +167,12 @@ impl<'a> Run<'a> {
         if self.leave_call(index) {
             return;
         }
-        if step.word(0) == "pthread_mutex_lock" {
-            self.wait_for_mutex(index, step.word(1));
+        let call = step.word(0);
+        if call == "pthread_mutex_lock" || call == "pthread_once" {
+            self.wait_for_owner(index, step.word(1));
         } else if step.is_in_call() {
             if let Some((_, mutex)) = step.condition_wait() {
-                self.wait_for_mutex(index, mutex);
+                self.wait_for_owner(index, mutex);
             }
         }
     }
@@ -149,20 +193,20 @@ impl<'a> Run<'a> {
         false
     }
 
-    // Adds the waits of a thread for a mutex of its process: since it is where it is, the rows in which another thread owns the mutex; after
-    // the last step also those in which it owns the mutex itself.
-    fn wait_for_mutex(&mut self, index: usize, mutex: &str) {
+    // Adds the waits of a thread for a mutex or a once control of its process with this name: since it is where it is, the rows in which another
+    // thread owns the mutex, or the control is busy; after the last step also those in which it owns the mutex itself.
+    fn wait_for_owner(&mut self, index: usize, name: &str) {
         let Some(thread) = self.threads.get(index) else {
             return;
         };
         let process = thread.id.process;
         let since = thread.since;
         let end = self.rows.len();
-        for at in self.first_owner_after(process, mutex, since)..self.owners.len() {
+        for at in self.first_owner_after(process, name, since)..self.owners.len() {
             if let Some(owner) = self.owners.get(at) {
                 let first = owner.first.max(since);
                 let last = owner.last.unwrap_or(end).min(end);
-                if owner.process == process && owner.mutex == mutex {
+                if owner.process == process && owner.name == name {
                     self.add_wait(index, first, last);
                 }
             }
@@ -186,14 +230,14 @@ impl<'a> Run<'a> {
         }
     }
 
-    // The index of an owner before which no owner has this mutex after this row.
-    fn first_owner_after(&self, process: usize, mutex: &str, row: usize) -> usize {
+    // The index of an owner before which no owner has this mutex or once control after this row.
+    fn first_owner_after(&self, process: usize, name: &str, row: usize) -> usize {
         let count = self.owners.len();
         for after in 0..count {
             let index = count.saturating_sub(after);
             if let Some(owner) = self.owners.get(index.saturating_sub(1)) {
                 let last = owner.last.unwrap_or(usize::MAX);
-                if last <= row && owner.process == process && owner.mutex == mutex {
+                if last <= row && owner.process == process && owner.name == name {
                     return index;
                 }
             }

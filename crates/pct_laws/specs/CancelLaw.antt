@@ -16,12 +16,12 @@ use Rattle.pct_model.specs.declared.schedule.Entry.{Entry}
 use Rattle.pct_model.specs.declared.script.Script.{Script}
 use Rattle.pct_model.specs.declared.state.Cause.TheVariants as cause
 use Rattle.pct_model.specs.declared.state.Mode.{Mode}
-use Rattle.pct_model.specs.declared.state.Mode.TheVariants.{Deferred}
+use Rattle.pct_model.specs.declared.state.Mode.TheVariants.{Asynchronous, Deferred}
 use Rattle.pct_model.specs.declared.state.State.{State}
-use Rattle.pct_model.specs.declared.state.State.TheVariants.{Disable}
+use Rattle.pct_model.specs.declared.state.State.TheVariants.{Disable, Enable}
 use Rattle.pct_model.specs.declared.state.Status.{Status}
 use Rattle.pct_model.specs.declared.state.Status.TheVariants as status
-use Rattle.pct_model.specs.CancelCalls.{called_kind, is_required, state_if, mode_if}
+use Rattle.pct_model.specs.CancelCalls.{called_kind, is_required}
 use Rattle.pct_model.specs.ChoiceTable.{choices_of}
 use Rattle.pct_laws.specs.CancelEvents.{is_asynchronous_last, has_to_act}
 use Rattle.pct_model.specs.NextStatement.{NextStatement, NoStatement, StatementIn, next_of}
@@ -73,13 +73,15 @@ acts_at_calls script s =
 -- the cancelability state of a thread after an event of its own: that of a pthread_setcancelstate, and disabled as the thread begins to end
 -- (XSH pthread_setcancelstate, 2.9.5.3). That it is disabled as the thread begins to exit its process is a choice of this host
 abbrev pub state_after : What → State → State
-state_after (what.StateSet enable) state = state_if enable
+state_after (what.StateSet true) state = Enable
+state_after (what.StateSet false) state = Disable
 state_after w state = if leaves_all w then Disable else state
 
 -- its type after such an event: that of a pthread_setcanceltype, and deferred as the thread begins to end (XSH pthread_setcancelstate,
 -- 2.9.5.3). That it is deferred as the thread begins to exit its process is a choice of this host
 abbrev pub mode_after : What → Mode → Mode
-mode_after (what.ModeSet asynchronous) mode = mode_if asynchronous
+mode_after (what.ModeSet true) mode = Asynchronous
+mode_after (what.ModeSet false) mode = Deferred
 mode_after w mode = if leaves_all w then Deferred else mode
 
 -- what a step does to the cancelability of its thread

@@ -107,8 +107,8 @@ is_another tid t = not t.gone && not t.ended && not (nat_eq t.id tid)
 pub record IsChild (s : ThreadStep) (child : Process) : Type 0 where
   pub parent : child.parent ≡ s.pid
   pub runs : child.ended ≡ None
-  -- what its threads share is a copy: its memory, the owners of its mutexes, its semaphores, its keys, and the functions that are registered.
-  -- Exit has not begun in it; and if its parent has another thread, it may execute async-signal-safe operations only
+  -- what its threads share is a copy: its memory, the owners of its mutexes, its semaphores, its once controls, its keys, and the functions
+  -- that are registered. Exit has not begun in it; and if its parent has another thread, it may execute async-signal-safe operations only
   pub copy : child.shared ≡ record s.process.shared { exit_value = None; restricted = list_any (is_another s.tid) s.process.threads }
   -- it has one thread; those of its parent that it lacks are gone
   pub thread : Thread

@@ -1,8 +1,8 @@
 -- The law of the stages of an end: each function that a thread calls as it ends has returned before its next stage; destructors are called
 -- when no cleanup handler is left; a pass over the destructors begins with all keys that are due and goes on until none is left in it, and
 -- the next one begins only if keys are due; a thread ends only if none is due or all passes were made, and then reports how many are due;
--- and the last thread of a process exits it as it ends (XSH 2.9.5.3, pthread_exit, pthread_key_create). A step changes the
--- value of a key of its own thread only at pthread_setspecific of this key, as its destructor is called, or as it is deleted.
+-- and the last thread of a process exits it as it ends; a thread that is ending begins an exit only so (XSH 2.9.5.3, pthread_exit,
+-- pthread_key_create). A step changes the value of a key of its own thread only at pthread_setspecific of this key, as its destructor is called, or as it is deleted.
 use Rattle.std.specs.Prelude.{◌≡◌, ℕ, suc, Bool, true, false, not, ◌&&◌, ◌||◌, List, length, filter, is_some, slice_get}
 use Rattle.std.specs.Prelude.{nat_eq, nat_lt, nat_le}
 use Rattle.std.specs.List.{range_with_len, list_any, list_all}
@@ -23,6 +23,7 @@ use Rattle.pct_model.specs.Keys.{KeyPlace, KeyValues, key_place, key_at, value_a
 use Rattle.pct_laws.specs.FollowedEvents.{are_followed}
 use Rattle.pct_laws.specs.KnownThreads.{reports_end}
 use Rattle.pct_model.specs.NextStatement.{NextStatement, StatementIn, next_of}
+use Rattle.pct_laws.specs.CancelLaw.{acts_or_stops, is_running}
 use Rattle.pct_laws.specs.ThreadSteps.{ThreadStep, EachStep}
 use Rattle.pct_model.specs.World.{Thread, Process, value_of}
 
@@ -100,6 +101,8 @@ module _ (passes : ℕ) where
   may_begin (what.DtorRun pass key f v) s = has_run_handlers s && nat_eq pass s.before.pass
   may_begin (what.Leftover n) s = nat_eq n (count_due s.process.shared.keys s.before) && nat_lt 0 n
   may_begin (what.EndedWith v) s = thread_may_end s
+  -- a thread that is ending begins an exit only as it ends
+  may_begin (what.ExitBegun v) s = not (is_status_ending s.before.status) || list_any reports_end s.events
   -- the law asks nothing at the other events
   may_begin _ s = true
 
@@ -127,8 +130,11 @@ sets_value globals place _ = false
 
 -- what a step keeps of the values of its thread, at a place (XSH pthread_setspecific, pthread_key_create, pthread_key_delete)
 pub record KeepsValue (script : Script) (place : ℕ) (s : ThreadStep) : Type 0 where
-  -- the value at the place stays, but for pthread_setspecific of its key, the call of its destructor, and its deletion
-  pub value : list_any (changes_value place) s.events ≡ false → sets_value s.process.shared.globals place (next_of script s.before.frames) ≡ false → value_at place s.after.specific ≡ value_at place s.before.specific
+  -- the value at the place stays, but for pthread_setspecific of its key, by a running thread that neither acts upon a request nor stops the
+  -- run; the call of its destructor; and its deletion
+  pub value : list_any (changes_value place) s.events ≡ false
+      → (is_running s.before.status && not (acts_or_stops s.events) && sets_value s.process.shared.globals place (next_of script s.before.frames)) ≡ false
+      → value_at place s.after.specific ≡ value_at place s.before.specific
   -- whether it is left in the pass stays, but for the beginning of a pass, the call of its destructor, and its deletion
   pub in_pass : list_any (changes_pass place) s.events ≡ false → slice_get s.after.specific.in_pass place ≡ slice_get s.before.specific.in_pass place
 

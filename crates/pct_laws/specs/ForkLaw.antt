@@ -1,8 +1,8 @@
 -- The law of fork handlers: fork calls those that were registered as it was called: before it makes a process the prepare handlers, the
 -- newest first, and after that the parent handlers, and in the child the child handlers, the oldest first. It makes a process, or fails to,
--- and returns only with none of them left to call; a handler that returns leaves the fork as it was (XSH pthread_atfork, fork). The thread
--- keeps the answer of fork, which the event gives by which a process is made or not, until its fork returns. That the parent handlers are
--- called also where no process is made is a choice of this host.
+-- and returns only with none of them left to call, by a step without an event; a handler that returns leaves the fork as it was (XSH
+-- pthread_atfork, fork). The thread keeps the answer of fork, which the event gives by which a process is made or not, until its fork
+-- returns. That the parent handlers are called also where no process is made is a choice of this host.
 --
 -- It leaves open whether a handler returns, and what it does; and where the answer is stored (ResultLaw.antt).
 use Rattle.std.specs.Prelude.{◌≡◌, ◌≢◌, ◌⊎◌, ℕ, Bool, true, false, List, [], ◌∷◌, length, take, drop, reverse, filter_map, is_some}
@@ -21,6 +21,7 @@ use Rattle.pct_model.specs.declared.state.Phase.TheVariants as phase
 use Rattle.pct_model.specs.declared.state.Status.{Status}
 use Rattle.pct_model.specs.declared.state.Status.TheVariants as status
 use Rattle.pct_model.specs.declared.statement.Stmt.TheVariants as statement
+use Rattle.pct_model.specs.LineParsing.{is_empty}
 use Rattle.pct_model.specs.NextStatement.{NextStatement, StatementIn, next_of}
 use Rattle.pct_model.specs.StatusKinds.{is_forking}
 use Rattle.pct_model.specs.World.{Thread}
@@ -110,6 +111,8 @@ pub record KeepsFork (script : Script) (s : ThreadStep) : Type 0 where
   -- a thread in fork returns from it after it got its answer, and with none left
   pub returned : (fork : ForkAt) → is_forking s.before.status ≡ true → fork_of s.before ≡ Some fork → fork_of s.after ≡ None
       → (left_to_call s.process.shared.fork_handlers fork ≡ []) × (fork.phase ≢ phase.Prepare)
+  -- a step of it without an event is this return, so each fork returns once
+  pub ends : is_forking s.before.status ≡ true → is_empty s.events ≡ true → fork_of s.after ≡ None
   -- a thread that is not in fork, and does not call it, keeps its fork, unless it begins to end or to exit its process: so a handler that
   -- returns leaves the fork as it was at its call
   pub resumed : is_forking s.before.status ≡ false → calls_fork (next_of script s.before.frames) s.before.status ≡ false

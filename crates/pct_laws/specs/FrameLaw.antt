@@ -1,8 +1,8 @@
--- The law of frames: in which functions a thread is, newest first, and where it goes on in each. A call, by `do` or as an event reports, puts
--- its function on top, at the first statement; the statements of the top function are executed in turn, with the jumps of the script language;
--- it goes by `return`, or by the `end` that closes it; and all go as the thread begins to end or to exit its process. So a handler that is
--- called as a thread ends is left only by its return, or by an exit of the process (XSH 2.9.5.3, pthread_exit, pthread_cleanup_pop,
--- pthread_key_create, pthread_atfork, fork, exit).
+-- The law of frames: in which functions a thread is, newest first, and where it goes on in each. A call, by `do` or pthread_once or as an
+-- event reports, puts its function on top, at the first statement; the statements of the top function are executed in turn, with the jumps
+-- of the script language; it goes by `return`, or by the `end` that closes it; and all go as the thread begins to end or to exit its
+-- process. So a handler that is called as a thread ends is left only by its return, or by an exit of the process (XSH 2.9.5.3,
+-- pthread_exit, pthread_cleanup_pop, pthread_key_create, pthread_once, pthread_atfork, fork, exit).
 --
 -- It leaves open which functions the events report (StatementLaw.antt, Once.antt, Calls.antt, ForkLaw.antt), and the locals of functions that go
 -- on (ResultLaw.antt). That a step changes no frame of another thread is said by the law of wake-ups, with all else that it leaves of other
@@ -51,9 +51,11 @@ reported_by (what.ParentRun f) = (f, 0, kind.ForkFn) ∷ []
 reported_by (what.ChildRun f) = (f, 0, kind.ForkFn) ∷ []
 reported_by _ = []
 
--- the call in a step with these events, at this next statement: that of `do`, which has no event, or the one that is reported
+-- the call in a step with these events, at this next statement: that of `do`, which has no event, that of an init routine, which the
+-- statement names and the event does not, or the one that is reported
 abbrev pub calls_of : List ℕ → List What → NextStatement → List Call
 calls_of globals [] (StatementIn frame (statement.Do f v)) = (f, value_of globals frame v, kind.Call) ∷ []
+calls_of globals (what.OnceCalled o ∷ []) (StatementIn frame (statement.CallOnce control f)) = (f, 0, kind.OnceFn control) ∷ []
 calls_of globals events next = flat_map reported_by events
 
 -- the locals of a function as it is called: its argument is the first, and each other is 0, a choice of this host

@@ -1,6 +1,6 @@
 -- The invariant of reachable states: what each state that a run reaches keeps, beside the events that led to it.
 use Rattle.std.specs.Prelude.{◌≡◌, ◌≢◌, ℕ, suc, ◌+◌, ◌*◌, ◌<◌, ◌≤◌, nat_eq, Bool, true, false, not, ◌&&◌, ◌||◌, if◌then◌else◌, Option, Some, None, is_some, option_map}
-use Rattle.std.specs.Prelude.{List, [], ◌∷◌, ◌++◌, length, map, slice_get, slice_index, All}
+use Rattle.std.specs.Prelude.{List, [], ◌∷◌, ◌++◌, length, map, count_by, slice_get, slice_index, All}
 use Rattle.std.specs.Bool.{beq}
 use Rattle.std.specs.List.{list_any}
 use Rattle.std.specs.Option.{IsSomeAnd, option_map_or}
@@ -16,6 +16,8 @@ use Rattle.pct_model.specs.declared.state.Cause.TheVariants as cause
 use Rattle.pct_model.specs.declared.state.ForkAt.{ForkAt}
 use Rattle.pct_model.specs.declared.state.FrameKind.{FrameKind}
 use Rattle.pct_model.specs.declared.state.FrameKind.TheVariants as kind
+use Rattle.pct_model.specs.declared.state.OnceState.{OnceState}
+use Rattle.pct_model.specs.declared.state.OnceState.TheVariants.{Busy}
 use Rattle.pct_model.specs.declared.state.State.TheVariants.{Disable}
 use Rattle.pct_model.specs.declared.state.Status.{Status}
 use Rattle.pct_model.specs.declared.state.Status.TheVariants as status
@@ -35,6 +37,8 @@ use Rattle.pct_laws.specs.NewestEvents.{newest_event}
 use Rattle.pct_model.specs.StatusKinds.{is_forking, has_left_wait, has_no_frame}
 use Rattle.pct_model.specs.LineParsing.{is_empty}
 use Rattle.pct_laws.specs.MutexOwners.{owner_of}
+use Rattle.pct_laws.specs.OnceControls.{once_of}
+use Rattle.pct_model.specs.OnceCalls.{once_at}
 use Rattle.pct_model.specs.NextStatement.{NextStatement, StatementIn, next_of}
 use Rattle.pct_laws.specs.Once.{is_pair}
 use Rattle.pct_laws.specs.OpenPushes.{open_pushes}
@@ -98,6 +102,16 @@ is_in_fork_handler _ _ = false
 abbrev pub is_exit_kind : FrameKind → Bool
 is_exit_kind kind.ExitFn = true
 is_exit_kind _ = false
+
+-- the once control of which a frame of this kind is the init routine, if it is one
+abbrev pub control_of : FrameKind → Option ℕ
+control_of (kind.OnceFn o) = Some o
+control_of _ = None
+
+-- the control is busy with thread tid
+abbrev pub is_busy_with : ℕ → OnceState → Bool
+is_busy_with tid (Busy id) = nat_eq id tid
+is_busy_with tid _ = false
 
 -- ---- status
 
@@ -323,6 +337,23 @@ pub record IsSuspendedInJoin (pid tid id : ℕ) (w : World) (events : List Event
   -- no other thread of the process is suspended in pthread_join for it
   pub alone : EachThreadIn pid w (λ second u. u.status ≡ status.Joining id → second ≡ tid)
 
+-- ---- once controls
+
+-- the once controls of a process: those of the script, each in the state that the events report; one that is busy is so with a thread that
+-- was made, and that the process may not have inherited
+pub record OncesKept (script : Script) (pid : ℕ) (p : Process) (events : List Event) : Type 0 where
+  pub controls : length p.shared.onces ≡ length script.onces
+  pub states : (o : ℕ) → once_at p.shared.onces o ≡ once_of pid o events
+  pub made : (o tid : ℕ) → once_at p.shared.onces o ≡ Busy tid → is_some (thread_with tid p) ≡ true
+
+-- the frame is that of the init routine of control o
+abbrev pub is_routine_of : ℕ → Frame → Bool
+is_routine_of o frame = option_map_or (nat_eq o) (control_of frame.kind) false
+
+-- a thread is in the routine of a control in one frame, if the control is busy with it, and in none otherwise; so no two threads are in it
+abbrev pub IsInItsRoutines : List OnceState → Thread → Type 0
+IsInItsRoutines onces t = (o : ℕ) → count_by (is_routine_of o) t.frames ≡ (if is_busy_with t.id (once_at onces o) then 1 else 0)
+
 -- ---- mutexes and condition waits
 
 -- the mutexes of a process: those of the script, with the owners that the events report
@@ -409,6 +440,10 @@ pub record Kept (script : Script) (config : Config) (w : World) (events : List E
   pub joins : EachThread w (λ pid tid t. (id : ℕ) → t.status ≡ status.Joining id → IsSuspendedInJoin pid tid id w events)
   -- each mutex of the script has an owner or none in each process, and it is the one that the events report
   pub owners : EachProcess w (λ pid p. OwnersKept script pid p events)
+  -- each once control of the script has a state in each process, and it is the one that the events report
+  pub onces : EachProcess w (λ pid p. OncesKept script pid p events)
+  -- a thread that does not exit its process is in the routines of the controls that are busy with it, each once
+  pub routines : EachProcess w (λ pid p. EachThreadOf p (λ tid t. (summary_of pid tid events).exiting ≡ false → IsInItsRoutines p.shared.onces t))
   -- the condition wait of each thread is unfinished exactly if the thread is in it
   pub waits : EachThread w (λ pid tid t. WaitKept (next_of script t.frames) t.status (wait_stage pid tid events))
   -- each call of a condition wait is directly followed by a release of the same thread

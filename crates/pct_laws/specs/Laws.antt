@@ -15,6 +15,7 @@ use Rattle.pct_laws.specs.Ends.{Ends}
 use Rattle.pct_laws.specs.FrameLaw.{FrameLaw}
 use Rattle.pct_laws.specs.ForkLaw.{ForkLaw}
 use Rattle.pct_laws.specs.JoinLaw as JoinLaw
+use Rattle.pct_laws.specs.OnceLaw.{OnceLaw}
 use Rattle.pct_laws.specs.ProcessLaw as ProcessLaw
 use Rattle.pct_laws.specs.RanAll as RanAll
 use Rattle.pct_laws.specs.ResultLaw.{ResultLaw}
@@ -56,9 +57,9 @@ pub record Laws (script : Script) (config : Config) (entries : List Entry) (r : 
   -- pthread_setspecific gives its thread the value of the operand; a new thread has NULL for each key, and each thread for a new key; and
   -- a step changes no other value of another thread, and no thread of another process
   pub values : ValueLaw script config entries
-  -- a function is called by `do` or as an event reports, at its first statement, on top of its callers, executes its statements in turn, and
-  -- goes by a return of its own, or with all others as its thread begins to end or to exit its process. From the call of a handler as it ends
-  -- to the next one, a thread is in the handler, unless that has returned or exited the process
+  -- a function is called by `do` or pthread_once or as an event reports, at its first statement, on top of its callers, executes its
+  -- statements in turn, and goes by a return of its own, or with all others as its thread begins to end or to exit its process. From the
+  -- call of a handler as it ends to the next one, a thread is in the handler, unless that has returned or exited the process
   pub frames : FrameLaw script config entries
   -- pthread_create makes one thread, which executes its start routine, and fork one process, with a copy of the state of its parent and the
   -- replica of the thread that called fork; no other step makes a thread or a process
@@ -72,11 +73,15 @@ pub record Laws (script : Script) (config : Config) (entries : List Entry) (r : 
   -- a mutex is acquired while no thread owns it, and released by its owner; a condition wait ends with its mutex owned again, also if a
   -- request ends it; and a signal is handed on only as a thread leaves its wait by a request
   pub conds : each CondLaw.allows r.events ≡ true
+  -- pthread_once calls the init routine of a control only while no call of it is in progress and none has returned, the routine returns
+  -- in the thread that called it, and a call that does not call it returns after one return of it
+  pub controls : OnceLaw script config entries r.events
   -- a signal unblocks one of the threads that wait and a broadcast all, each with the mutex of its wait; no other thread is unblocked, and
   -- a step changes nothing of another thread but what its events say; a signal is not lost as its thread acts upon a request
   pub wakes : WakeLaw script config entries
-  -- owners and counts change by the events that say so, a semaphore is taken only where its count is above 0, and the time of a wait for
-  -- one expires only where it is 0; atexit and pthread_atfork register what they name, unless they fail, and nothing else is registered
+  -- owners, counts and once controls change by the events that say so, a semaphore is taken only where its count is above 0, and the time
+  -- of a wait for one expires only where it is 0; atexit and pthread_atfork register what they name, unless they fail, and nothing else is
+  -- registered
   pub shared : SharedLaw script config entries
   -- a new thread gets an id that no known thread of its process has had, and each known thread on its slot has ended and was joined or is
   -- detached

@@ -8,6 +8,7 @@ pub mod CancelEvents
 pub mod KeyEvents
 pub mod ProcessEnds
 pub mod MutexOwners
+pub mod OnceControls
 pub mod WaitStages
 pub mod OpenPushes
 pub mod ThreadSteps
@@ -28,6 +29,7 @@ pub mod ValueLaw
 pub mod FrameLaw
 pub mod JoinLaw
 pub mod CondLaw
+pub mod OnceLaw
 pub mod WakeLaw
 pub mod SharedLaw
 pub mod SlotLaw

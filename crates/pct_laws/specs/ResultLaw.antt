@@ -14,8 +14,12 @@ use Rattle.pct_model.specs.declared.numbers.TheConstants.{EAGAIN}
 use Rattle.pct_model.specs.declared.schedule.Config.{Config}
 use Rattle.pct_model.specs.declared.schedule.Entry.{Entry}
 use Rattle.pct_model.specs.declared.script.Script.{Script}
+use Rattle.pct_model.specs.declared.state.Mode.{Mode}
+use Rattle.pct_model.specs.declared.state.Mode.TheVariants.{Asynchronous, Deferred}
 use Rattle.pct_model.specs.declared.state.Phase.{Phase}
 use Rattle.pct_model.specs.declared.state.Phase.TheVariants as phase
+use Rattle.pct_model.specs.declared.state.State.{State}
+use Rattle.pct_model.specs.declared.state.State.TheVariants.{Disable, Enable}
 use Rattle.pct_model.specs.declared.state.Status.{Status}
 use Rattle.pct_model.specs.declared.state.Status.TheVariants as status
 use Rattle.pct_model.specs.declared.statement.Dest.{Dest}
@@ -24,7 +28,6 @@ use Rattle.pct_model.specs.declared.statement.Operand.{Operand}
 use Rattle.pct_model.specs.declared.statement.Stmt.{Stmt}
 use Rattle.pct_model.specs.declared.statement.Stmt.TheVariants as statement
 use Rattle.pct_model.specs.Actions.{without_first}
-use Rattle.pct_model.specs.CancelCalls.{state_number, mode_number}
 use Rattle.pct_model.specs.Keys.{key_place, value_at}
 use Rattle.pct_model.specs.LineParsing.{is_empty}
 use Rattle.pct_model.specs.NextStatement.{NextStatement, NoStatement, StatementIn, next_of}
@@ -36,6 +39,18 @@ use Rattle.pct_laws.specs.ThreadSteps.{ThreadStep, EachStep}
 -- a number that is stored, and the variable that gets it; `-` drops it
 abbrev pub Store : Type 0
 Store = Dest × ℕ
+
+-- ---- the numbers of cancelability states and types, which are choices of this host
+
+-- PTHREAD_CANCEL_ENABLE is 0, and PTHREAD_CANCEL_DISABLE is 1
+abbrev pub number_of_state : State → ℕ
+number_of_state Enable = 0
+number_of_state Disable = 1
+
+-- PTHREAD_CANCEL_DEFERRED is 0, and PTHREAD_CANCEL_ASYNCHRONOUS is 1
+abbrev pub number_of_mode : Mode → ℕ
+number_of_mode Deferred = 0
+number_of_mode Asynchronous = 1
 
 -- ---- the table
 
@@ -55,8 +70,8 @@ module _ (shared : SharedState) (t : Thread) where
   -- XSH pthread_self
   stored_at frame (statement.SelfId d) [] = (d, t.id) ∷ []
   -- XSH pthread_setcancelstate, pthread_setcanceltype: the previous one
-  stored_at frame (statement.SetState enable old) (what.StateSet enabled ∷ []) = (old, state_number t.state) ∷ []
-  stored_at frame (statement.SetMode asynchronous old) (what.ModeSet made_asynchronous ∷ []) = (old, mode_number t.mode) ∷ []
+  stored_at frame (statement.SetState enable old) (what.StateSet enabled ∷ []) = (old, number_of_state t.state) ∷ []
+  stored_at frame (statement.SetMode asynchronous old) (what.ModeSet made_asynchronous ∷ []) = (old, number_of_mode t.mode) ∷ []
   -- XSH pthread_key_create: 0 and the new key, or the error
   stored_at frame (statement.KeyCreate result key destructor) (what.KeyMade n ∷ []) = (result, 0) ∷ (key, n) ∷ []
   stored_at frame (statement.KeyCreate result key destructor) (what.Answer caller.KeyCreate n ∷ []) = (result, n) ∷ []

@@ -1,10 +1,10 @@
--- The law of what the threads of a process share, but for the globals (ResultLaw.antt) and the keys (Calls.antt): the owner of a mutex and
--- the count of a semaphore change by the events that say so alone (XSH pthread_mutex_lock, pthread_mutex_unlock, pthread_cond_wait,
--- sem_wait, sem_post), a semaphore is taken only where its count is above 0 (XSH sem_wait), and the time of a wait for one expires only
--- where its count is 0 (XSH sem_timedwait); atexit and pthread_atfork register what they name, unless they fail, and no other step
--- registers anything; exit begins by its event alone, and takes the newest exit function away as it calls it (XSH atexit, pthread_atfork,
--- exit).
-use Rattle.std.specs.Prelude.{◌≡◌, ℕ, suc, ◌-◌, ◌%◌, Bool, true, nat_eq, nat_lt, List, [], ◌∷◌, ◌++◌, slice_index, slice_set}
+-- The law of what the threads of a process share, but for the globals (ResultLaw.antt) and the keys (Calls.antt): the owner of a mutex, the
+-- count of a semaphore and the state of a once control change by the events that say so alone (XSH pthread_mutex_lock,
+-- pthread_mutex_unlock, pthread_cond_wait, sem_wait, sem_post, pthread_once), a semaphore is taken only where its count is above 0 (XSH
+-- sem_wait), and the time of a wait for one expires only where its count is 0 (XSH sem_timedwait); atexit and pthread_atfork register what
+-- they name, unless they fail, and no other step registers anything; exit begins by its event alone, and takes the newest exit function
+-- away as it calls it (XSH atexit, pthread_atfork, exit).
+use Rattle.std.specs.Prelude.{◌≡◌, ℕ, suc, ◌-◌, ◌%◌, Bool, true, nat_eq, nat_lt, List, [], ◌∷◌, ◌++◌, map, slice_index, slice_set}
 use Rattle.std.specs.List.{list_all}
 use Rattle.pct_model.specs.declared.event.Caller.TheVariants as caller
 use Rattle.pct_model.specs.declared.event.What.{What}
@@ -13,12 +13,15 @@ use Rattle.pct_model.specs.declared.process.ForkHandlers.{ForkHandlers}
 use Rattle.pct_model.specs.declared.schedule.Config.{Config}
 use Rattle.pct_model.specs.declared.schedule.Entry.{Entry}
 use Rattle.pct_model.specs.declared.script.Script.{Script}
+use Rattle.pct_model.specs.declared.state.OnceState.{OnceState}
+use Rattle.pct_model.specs.declared.state.OnceState.TheVariants.{Busy, Done}
 use Rattle.pct_model.specs.declared.state.Status.{Status}
 use Rattle.pct_model.specs.declared.state.Status.TheVariants as status
 use Rattle.pct_model.specs.declared.statement.Stmt.TheVariants as statement
 use Rattle.pct_model.specs.NextStatement.{NextStatement, StatementIn, next_of}
 use Rattle.pct_model.specs.World.{SharedState}
 use Rattle.pct_laws.specs.AfterAll.{after_all}
+use Rattle.pct_laws.specs.OnceControls.{given_up}
 use Rattle.pct_laws.specs.ProcessEnds.{exit_after}
 use Rattle.pct_laws.specs.ThreadSteps.{ThreadStep, EachStep}
 
@@ -35,6 +38,15 @@ abbrev pub counts_after : What → List ℕ → List ℕ
 counts_after (what.Taken sem) counts = slice_set counts sem (slice_index counts sem - 1)
 counts_after (what.Posted sem) counts = slice_set counts sem (suc (slice_index counts sem) % 4294967296)
 counts_after _ counts = counts
+
+-- the once controls after an event of thread tid
+abbrev pub onces_after : ℕ → What → List OnceState → List OnceState
+onces_after tid (what.OnceCalled o) onces = slice_set onces o (Busy tid)
+onces_after tid (what.OnceDone o) onces = slice_set onces o Done
+onces_after tid (what.EndingExit v) onces = map (given_up tid) onces
+onces_after tid what.EndingCanceled onces = map (given_up tid) onces
+onces_after tid (what.EndingInWait c m) onces = map (given_up tid) onces
+onces_after tid _ onces = onces
 
 -- the functions that were registered with atexit, newest first: the newest is taken away as it is called
 abbrev pub exits_after : What → List ℕ → List ℕ
@@ -81,6 +93,7 @@ times_out_at_0 s = list_all (is_at_0 s.process.shared.counts s.before.status) s.
 pub record ChangesShared (tid : ℕ) (events : List What) (s : Status) (next : NextStatement) (before after : SharedState) : Type 0 where
   pub owners : after.owners ≡ after_all (owners_after tid) events before.owners
   pub counts : after.counts ≡ after_all counts_after events before.counts
+  pub onces : after.onces ≡ after_all (onces_after tid) events before.onces
   -- a new exit function comes first, and new fork handlers last
   pub exit_functions : after.exit_functions ≡ after_all exits_after events (new_exits events s next ++ before.exit_functions)
   pub fork_handlers : after.fork_handlers ≡ before.fork_handlers ++ new_fork_handlers events s next

@@ -47,12 +47,15 @@ agree true b = b
 agree false b = not b
 
 -- the events of a return with a value, by the kind of the frame: one from `main` in the initial thread acts as exit, one from the start
--- routine of another thread as pthread_exit, and any other has none (XSH pthread_create)
+-- routine of another thread as pthread_exit, one from an init routine has the event of its control, and any other has none (XSH
+-- pthread_create, pthread_once)
 abbrev pub of_return : FrameKind → ℕ → List What → Bool
 of_return kind.Main v (what.ExitBegun n ∷ []) = nat_eq n v
 of_return kind.Main v _ = false
 of_return kind.Start v (what.EndingExit n ∷ []) = nat_eq n v
 of_return kind.Start v _ = false
+of_return (kind.OnceFn o) v (what.OnceDone control ∷ []) = nat_eq control o
+of_return (kind.OnceFn o) v _ = false
 of_return _ v events = is_empty events
 
 -- the event of a pop with an argument, in a thread with these handlers: the newest is removed, and called if the argument is not 0 (XSH
@@ -135,6 +138,9 @@ module _ (slots : ℕ) (body : List Stmt) (shared : SharedState) (threads : List
   asked frame (statement.SemWait sem) (what.Called index ∷ []) = nat_eq index sem_wait_point
   asked frame (statement.SemTimedWait result sem) (what.Called index ∷ []) = nat_eq index sem_timedwait_point
   asked frame (statement.SemPost sem) (what.Posted n ∷ []) = nat_eq n sem
+  -- XSH pthread_once: the routine is called, or it has returned before. Which of them is said by the law of pthread_once (OnceLaw.antt)
+  asked frame (statement.CallOnce o f) (what.OnceCalled control ∷ []) = nat_eq control o
+  asked frame (statement.CallOnce o f) events = is_empty events
   -- XSH pthread_atfork: ENOMEM past the limit of this host alone
   asked frame (statement.AtFork result prepare parent child) (what.Answer caller.AtFork n ∷ []) = nat_eq n ENOMEM && not (nat_lt (length shared.fork_handlers) MAX_FORK_HANDLERS)
   asked frame (statement.AtFork result prepare parent child) events = is_empty events && nat_lt (length shared.fork_handlers) MAX_FORK_HANDLERS

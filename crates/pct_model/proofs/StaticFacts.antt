@@ -58,13 +58,14 @@ pub record KeepsLimits (c : Contents) : Type 0 where
   pub statements : statement_lines c.funcs ≤ 2000
   pub locals : list_all (λ f. nat_le (length f.locals) 8) c.funcs ≡ true
 
-within_kinds : (c : Contents) (k : SymbolKind) → is_within c kind.Global ≡ true → is_within c kind.Mutex ≡ true → is_within c kind.Cond ≡ true → is_within c kind.Sem ≡ true → is_within c kind.Function ≡ true
+within_kinds : (c : Contents) (k : SymbolKind) → is_within c kind.Global ≡ true → is_within c kind.Mutex ≡ true → is_within c kind.Cond ≡ true → is_within c kind.Sem ≡ true → is_within c kind.Once ≡ true → is_within c kind.Function ≡ true
     → length (names_of_kind c k) ≤ most k
-within_kinds c kind.Global globals mutexes conds sems functions = leb-true _ _ globals
-within_kinds c kind.Mutex globals mutexes conds sems functions = leb-true _ _ mutexes
-within_kinds c kind.Cond globals mutexes conds sems functions = leb-true _ _ conds
-within_kinds c kind.Sem globals mutexes conds sems functions = leb-true _ _ sems
-within_kinds c kind.Function globals mutexes conds sems functions = leb-true _ _ functions
+within_kinds c kind.Global globals mutexes conds sems onces functions = leb-true _ _ globals
+within_kinds c kind.Mutex globals mutexes conds sems onces functions = leb-true _ _ mutexes
+within_kinds c kind.Cond globals mutexes conds sems onces functions = leb-true _ _ conds
+within_kinds c kind.Sem globals mutexes conds sems onces functions = leb-true _ _ sems
+within_kinds c kind.Once globals mutexes conds sems onces functions = leb-true _ _ onces
+within_kinds c kind.Function globals mutexes conds sems onces functions = leb-true _ _ functions
 
 pub limits_kept : (c : Contents) → is_static c ≡ true → KeepsLimits c
 unfolding keeps_limits
@@ -73,16 +74,18 @@ limits_kept c static =
     let mutexes = is_within c kind.Mutex in
     let conds = is_within c kind.Cond in
     let sems = is_within c kind.Sem in
+    let onces = is_within c kind.Once in
     let functions = is_within c kind.Function in
     let short = nat_le (statement_lines c.funcs) 2000 in
     let locals = list_all (λ (f : Func). nat_le (length f.locals) 8) c.funcs in
-    let a = and_parts (globals && mutexes && conds && sems && functions && short) locals (passes_all c static).limits in
-    let b = and_parts (globals && mutexes && conds && sems && functions) short a.0 in
-    let d = and_parts (globals && mutexes && conds && sems) functions b.0 in
-    let e = and_parts (globals && mutexes && conds) sems d.0 in
-    let f = and_parts (globals && mutexes) conds e.0 in
-    let g = and_parts globals mutexes f.0 in
-    record { kinds = λ k. within_kinds c k g.0 g.1 f.1 e.1 d.1; statements = leb-true (statement_lines c.funcs) 2000 b.1; locals = a.1 }
+    let a = and_parts (globals && mutexes && conds && sems && onces && functions && short) locals (passes_all c static).limits in
+    let b = and_parts (globals && mutexes && conds && sems && onces && functions) short a.0 in
+    let d = and_parts (globals && mutexes && conds && sems && onces) functions b.0 in
+    let e = and_parts (globals && mutexes && conds && sems) onces d.0 in
+    let f = and_parts (globals && mutexes && conds) sems e.0 in
+    let g = and_parts (globals && mutexes) conds f.0 in
+    let h = and_parts globals mutexes g.0 in
+    record { kinds = λ k. within_kinds c k h.0 h.1 g.1 f.1 e.1 d.1; statements = leb-true (statement_lines c.funcs) 2000 b.1; locals = a.1 }
 
 -- there are at most 64 functions
 pub few_functions : (c : Contents) → is_static c ≡ true → length c.funcs ≤ 64
@@ -126,6 +129,7 @@ pub record HasText (c : Contents) : Type 0 where
   pub mutexes : list_all is_name c.mutexes ≡ true
   pub conds : list_all is_name c.conds ≡ true
   pub sems : list_all (λ s. is_name s.name && nat_le s.count 32767) c.sems ≡ true
+  pub onces : list_all is_name c.onces ≡ true
   pub funcs : list_all (has_lines c) c.funcs ≡ true
 
 pub text_parts : (c : Contents) → has_text c ≡ true → HasText c
@@ -135,11 +139,13 @@ text_parts c h =
     let mutexes = list_all is_name c.mutexes in
     let conds = list_all is_name c.conds in
     let sems = list_all (λ (s : SemDecl). is_name s.name && nat_le s.count 32767) c.sems in
-    let a = and_parts (globals && mutexes && conds && sems) (list_all (has_lines c) c.funcs) h in
-    let b = and_parts (globals && mutexes && conds) sems a.0 in
-    let d = and_parts (globals && mutexes) conds b.0 in
-    let e = and_parts globals mutexes d.0 in
-    record { globals = e.0; mutexes = e.1; conds = d.1; sems = b.1; funcs = a.1 }
+    let onces = list_all is_name c.onces in
+    let a = and_parts (globals && mutexes && conds && sems && onces) (list_all (has_lines c) c.funcs) h in
+    let b = and_parts (globals && mutexes && conds && sems) onces a.0 in
+    let d = and_parts (globals && mutexes && conds) sems b.0 in
+    let e = and_parts (globals && mutexes) conds d.0 in
+    let f = and_parts globals mutexes e.0 in
+    record { globals = f.0; mutexes = f.1; conds = e.1; sems = d.1; onces = b.1; funcs = a.1 }
 
 -- the declared names of each kind are valid names
 pub kinds_are_names : (c : Contents) (k : SymbolKind) → HasText c → list_all is_name (names_of_kind c k) ≡ true
@@ -147,6 +153,7 @@ kinds_are_names c kind.Global t = t.globals
 kinds_are_names c kind.Mutex t = t.mutexes
 kinds_are_names c kind.Cond t = t.conds
 kinds_are_names c kind.Sem t = names_of_sems c.sems t.sems
+kinds_are_names c kind.Once t = t.onces
 kinds_are_names c kind.Function t = names_of_lines c c.funcs t.funcs
 
 -- the names of a script's functions are valid names

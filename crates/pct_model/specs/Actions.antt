@@ -5,6 +5,7 @@ use Rattle.std.specs.Prelude.{ℕ, suc, Bool, true, false, not, ◌&&◌, if◌t
 use Rattle.pct_model.specs.declared.frame.Frame.{Frame}
 use Rattle.pct_model.specs.declared.state.FrameKind.TheVariants as kind
 use Rattle.pct_model.specs.declared.state.Phase.TheVariants.{Child}
+use Rattle.pct_model.specs.declared.state.OnceState.{OnceState}
 use Rattle.pct_model.specs.declared.state.Reason.TheVariants as reason
 use Rattle.pct_model.specs.declared.state.Cause.TheVariants as cause
 use Rattle.pct_model.specs.declared.state.Status.{Status}
@@ -24,6 +25,7 @@ use Rattle.pct_model.specs.declared.transition.SharedAction.TheVariants as share
 use Rattle.pct_model.specs.declared.transition.Transition.{Transition}
 use Rattle.pct_model.specs.Cancelability.{ending_state, ending_mode}
 use Rattle.pct_model.specs.CondCalls.{is_waiting_on, unblocked}
+use Rattle.pct_model.specs.OnceCalls.{abandoned}
 use Rattle.pct_model.specs.Keys.{key_place, with_key, without_key, with_value, without_value, with_pass, without_pass}
 use Rattle.pct_model.specs.Environment.{is_last}
 use Rattle.pct_model.specs.World.{Thread, SharedState, ProcessEnd, Process, World, new_frame, new_thread}
@@ -105,6 +107,13 @@ abbrev pub globals_written : Dest → ℕ → List ℕ → List ℕ
 globals_written (destination.Global i) v globals = slice_set globals i v
 globals_written _ v globals = globals
 
+-- the once controls after the own action of the thread with an id, if it has one. As a thread begins to end, each control whose init
+-- routine it runs is as if it had not called pthread_once. XSH pthread_once says so of a routine that is canceled; that pthread_exit in it
+-- does the same is a choice of this host. Where an exit begins the controls stay as they are
+unfoldable pub onces_after : ℕ → Option OwnAction → List OnceState → List OnceState
+onces_after tid (Some (own_action.BeginEnd why)) onces = map (abandoned tid) onces
+onces_after tid _ onces = onces
+
 -- the shared state after the action on it, if there is one
 unfoldable pub shared_after : Option SharedAction → SharedState → SharedState
 shared_after None s = s
@@ -112,6 +121,7 @@ shared_after (Some (shared_action.MakeKey k destructor)) s = record s { keys = w
 shared_after (Some (shared_action.DeleteKey k)) s = record s { keys = without_key (key_place k) s.keys }
 shared_after (Some (shared_action.OwnMutex m id)) s = record s { owners = slice_set s.owners m id }
 shared_after (Some (shared_action.SetCount sem n)) s = record s { counts = slice_set s.counts sem n }
+shared_after (Some (shared_action.SetOnce o state)) s = record s { onces = slice_set s.onces o state }
 shared_after (Some (shared_action.AddForkHandlers handlers)) s = record s { fork_handlers = s.fork_handlers ++ handlers ∷ [] }
 shared_after (Some (shared_action.AddExit f)) s = record s { exit_functions = f ∷ s.exit_functions }
 shared_after (Some shared_action.TakeExit) s = record s { exit_functions = without_first s.exit_functions }
@@ -164,8 +174,9 @@ unfoldable pub inherited : ℕ → Thread → Thread
 inherited tid t = if has_valid_id tid t then replica_of t else record t { gone = true }
 
 -- the child, with an id. It inherits what the threads of the process share: the globals, which stand for its memory, the mutexes with
--- their owners, the semaphores, the keys, and the functions that are registered (XSH fork, pthread_atfork, atexit). Exit has not begun
--- in it. If the process has another thread that has not ended, the child may execute async-signal-safe operations only (XSH fork)
+-- their owners, the semaphores, the once controls, the keys, and the functions that are registered (XSH fork, pthread_atfork, atexit). Exit
+-- has not begun in it. If the process has another thread that has not ended, the child may execute async-signal-safe operations only (XSH
+-- fork)
 unfoldable pub child_of : ℕ → ℕ → Process → Process
 child_of tid pid p = record { pid = pid; parent = p.pid; ended = None; threads = map (inherited tid) p.threads; shared = record p.shared { exit_value = None; restricted = not (is_last tid p.threads) } }
 
@@ -200,13 +211,13 @@ thread_moved tid o t = named_after o.named (if has_valid_id tid t then moved o t
 abbrev pub threads_moved : ℕ → Transition → List Thread → List Thread
 threads_moved tid o threads = map (thread_moved tid o) threads ++ thread_created o.created
 
--- what they share
-abbrev pub shared_moved : Transition → SharedState → SharedState
-shared_moved o s = shared_after o.shared (record s { globals = written globals_written o.writes s.globals })
+-- what they share, after a transition of the thread with an id
+abbrev pub shared_moved : ℕ → Transition → SharedState → SharedState
+shared_moved tid o s = shared_after o.shared (record s { globals = written globals_written o.writes s.globals; onces = onces_after tid o.own s.onces })
 
 -- the process after a transition of its thread with an id
 abbrev pub changed : ℕ → Transition → Process → Process
-changed tid o p = process_after o.process (record p { threads = threads_moved tid o p.threads; shared = shared_moved o p.shared })
+changed tid o p = process_after o.process (record p { threads = threads_moved tid o p.threads; shared = shared_moved tid o p.shared })
 
 -- the process has this id and has not ended
 abbrev pub is_live_process : ℕ → Process → Bool

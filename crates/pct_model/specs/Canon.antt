@@ -1,4 +1,4 @@
--- The canonical text of a script: globals, mutexes, condition variables, semaphores and functions, in this order and
+-- The canonical text of a script: globals, mutexes, condition variables, semaphores, once controls and functions, in this order and
 -- each in the order of declaration; one line each, words separated by one space, numbers in decimal without leading
 -- zeros.
 use Rattle.std.specs.Prelude.{ℕ, Bool, true, false, List, [], ◌∷◌, ◌++◌, map, flat_map, codes, decimal}
@@ -70,6 +70,7 @@ script_lines c =
     ++ map (λ name. declaration_line kind.Mutex (name ∷ [])) c.mutexes
     ++ map (λ name. declaration_line kind.Cond (name ∷ [])) c.conds
     ++ map (λ s. declaration_line kind.Sem (s.name ∷ decimal s.count ∷ [])) c.sems
+    ++ map (λ name. declaration_line kind.Once (name ∷ [])) c.onces
     ++ flat_map (function_lines c) c.funcs
 
 -- the canonical text of a script

@@ -52,6 +52,7 @@ most kind.Global = MAX_DECLARED
 most kind.Mutex = MAX_DECLARED
 most kind.Cond = MAX_DECLARED
 most kind.Sem = MAX_DECLARED
+most kind.Once = MAX_DECLARED
 most kind.Function = MAX_FUNCTIONS
 
 -- the line exceeds the test, and so do n or more lines before it
@@ -70,7 +71,7 @@ has_many_locals line = declares kind.Function line && nat_lt MAX_LOCALS (length 
 unfoldable pub exceeds_limit : List ParsedLine → ParsedLine → Bool
 exceeds_limit before line =
     exceeds_most before line kind.Global || exceeds_most before line kind.Mutex || exceeds_most before line kind.Cond
-    || exceeds_most before line kind.Sem || exceeds_most before line kind.Function
+    || exceeds_most before line kind.Sem || exceeds_most before line kind.Once || exceeds_most before line kind.Function
     || exceeds is_statement MAX_STATEMENTS before line || has_many_locals line
 
 -- the check of limits

@@ -29,7 +29,8 @@ use Rattle.pct_model.specs.Keys.{new_keys, left_keys}
 use Rattle.pct_model.specs.World.{Thread, SharedState, Process, World}
 use Rattle.pct_model.specs.NextStatement.{NextStatement, NoStatement, StatementIn, next_of, body_at}
 use Rattle.pct_model.specs.OtherProcesses.{is_running_child}
-use Rattle.pct_model.specs.MutexCalls.{is_free_mutex, is_blocked}
+use Rattle.pct_model.specs.MutexCalls.{is_free_mutex}
+use Rattle.pct_model.specs.OnceCalls.{once_at, is_busy}
 use Rattle.pct_model.specs.Environment.{Waiter, Environment, is_ended_thread, environment_of}
 use Rattle.pct_model.specs.StopTable.{is_forbidden_in_child}
 
@@ -67,6 +68,14 @@ ChoiceRow = Bool × List Alt
 abbrev pub first_row : List ChoiceRow → List Alt → List Alt
 first_row [] otherwise = otherwise
 first_row (row ∷ rows) otherwise = if row.0 then row.1 else first_row rows otherwise
+
+-- a thread at the statement is blocked: it is pthread_mutex_lock of a mutex that has an owner, or pthread_once of a control that is busy.
+-- The thread itself is no exception: one that locks a mutex of this type again deadlocks, and so does one that calls pthread_once on the
+-- control in the init routine, a choice of this host
+abbrev pub is_blocked : Stmt → SharedState → Bool
+is_blocked (statement.Lock m) shared = not (is_free_mutex m shared)
+is_blocked (statement.CallOnce o f) shared = is_busy (once_at shared.onces o)
+is_blocked s shared = false
 
 -- the statement is pthread_create
 abbrev pub is_create : Stmt → Bool
@@ -134,7 +143,8 @@ module _ (body : List Stmt) (shared : SharedState) (t : Thread) (environment : E
       ∷ (is_deliverable t.state t.pending && is_required (called_kind s), alt.Act 0 ∷ [])
       -- XSH 2.9.5.2: a function that may be a cancellation point. That the thread acts only at the call is a choice of this host
       ∷ (is_deliverable t.state t.pending && is_optional (called_kind s), alt.Go ∷ alt.Act 0 ∷ [])
-      -- XSH pthread_mutex_lock: the thread blocks until the mutex has no owner. It is no cancellation point
+      -- XSH pthread_mutex_lock: the thread blocks until the mutex has no owner. XSH pthread_once: it returns after the init routine has
+      -- completed; that it blocks until then is a choice of this host. They are no cancellation points
       ∷ (is_blocked s shared, [])
       -- XSH pthread_create: if no slot is free, `go`: the call fails with EAGAIN. That it fails only then, that an ended thread which
       -- is not joined keeps its slot, and which ids are offered are choices of this host

@@ -20,6 +20,7 @@ pub record Contents : Type 0 where
   pub mutexes : List (List ℕ)
   pub conds : List (List ℕ)
   pub sems : List SemDecl
+  pub onces : List (List ℕ)
   pub funcs : List Func
 
 -- the declared names of a kind, in order
@@ -28,6 +29,7 @@ names_of_kind c kind.Global = c.globals
 names_of_kind c kind.Mutex = c.mutexes
 names_of_kind c kind.Cond = c.conds
 names_of_kind c kind.Sem = map (λ s. s.name) c.sems
+names_of_kind c kind.Once = c.onces
 names_of_kind c kind.Function = names_of c.funcs
 
 -- ---- name resolution, given the declared names of each kind and the locals of the function

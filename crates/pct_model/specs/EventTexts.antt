@@ -57,6 +57,10 @@ cond_name script c = name_at script.conds c
 abbrev pub sem_name : Script → ℕ → List ℕ
 sem_name script s = name_at (map (λ d. d.name) script.sems) s
 
+-- the name of a once control
+abbrev pub once_name : Script → ℕ → List ℕ
+once_name script o = name_at script.onces o
+
 -- ---- the table
 
 -- the words of each event
@@ -92,6 +96,8 @@ event_words script (what.WaitExpired c) = word keyword.Expire ∷ cond_name scri
 event_words script (what.HandedOn c id) = word keyword.HandOn ∷ cond_name script c ∷ decimal id ∷ []
 event_words script (what.Taken s) = word keyword.Take ∷ sem_name script s ∷ []
 event_words script (what.Posted s) = word keyword.Post ∷ sem_name script s ∷ []
+event_words script (what.OnceCalled o) = word keyword.Once ∷ once_name script o ∷ word keyword.Call ∷ []
+event_words script (what.OnceDone o) = word keyword.Once ∷ once_name script o ∷ word keyword.Done ∷ []
 event_words script (what.Forked pid) = word keyword.Fork ∷ decimal pid ∷ []
 event_words script (what.PrepareRun f) = word keyword.Prepare ∷ func_name script f ∷ []
 event_words script (what.ParentRun f) = word keyword.Parent ∷ func_name script f ∷ []

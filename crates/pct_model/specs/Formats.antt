@@ -1,6 +1,6 @@
--- The formats of schedules and reports. A run has texts of format 2 exactly if its script has a statement that format 1 does not know, so that
--- texts of format 1 stay as they are.
-use Rattle.std.specs.Prelude.{ℕ, Bool, true, false, if◌then◌else◌}
+-- The formats of schedules and reports. A run has texts of format 2 exactly if its script has a wait with a time, or declares a once
+-- control: format 1 knows neither, so that texts of format 1 stay as they are.
+use Rattle.std.specs.Prelude.{ℕ, Bool, true, false, ◌||◌, if◌then◌else◌, length, nat_lt}
 use Rattle.std.specs.List.{list_any}
 use Rattle.pct_model.specs.declared.schedule.Alt.{Alt}
 use Rattle.pct_model.specs.declared.schedule.Alt.TheVariants as alt
@@ -34,7 +34,7 @@ is_timed _ = false
 
 -- the format of the texts of a script
 unfoldable pub format_of : Script → Format
-format_of script = if list_any (λ f. list_any is_timed f.body) script.funcs then format.Two else format.One
+format_of script = if list_any (λ f. list_any is_timed f.body) script.funcs || nat_lt 0 (length script.onces) then format.Two else format.One
 
 -- the configuration, with the format of the script
 abbrev pub config_for : Script → Config → Config

@@ -33,6 +33,7 @@ pub mod KeyCalls
 pub mod MutexCalls
 pub mod CondCalls
 pub mod SemCalls
+pub mod OnceCalls
 pub mod ForkCalls
 pub mod ThreadEnds
 pub mod ProcessExit

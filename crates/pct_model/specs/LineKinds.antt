@@ -45,6 +45,10 @@ cond_variable = Item kind.Cond
 abbrev pub semaphore : ArgumentKind
 semaphore = Item kind.Sem
 
+-- the name of a once control
+abbrev pub once_control : ArgumentKind
+once_control = Item kind.Once
+
 -- the arguments of `fn`: the function's name, its parameter, and its other locals
 abbrev pub fn_argument_kinds : ℕ → List ArgumentKind
 fn_argument_kinds n = Declared ∷ Local ∷ replicate (n - 2) Local
@@ -61,6 +65,7 @@ declaration_syntax kind.Global = line (codes "global") (Declared ∷ []) (role.D
 declaration_syntax kind.Mutex = line (codes "mutex") (Declared ∷ []) (role.Declares kind.Mutex)
 declaration_syntax kind.Cond = line (codes "cond") (Declared ∷ []) (role.Declares kind.Cond)
 declaration_syntax kind.Sem = line (codes "sem") (Declared ∷ Count ∷ []) (role.Declares kind.Sem)
+declaration_syntax kind.Once = line (codes "once") (Declared ∷ []) (role.Declares kind.Once)
 declaration_syntax kind.Function = record { keyword = codes "fn"; argument_kinds = fn_argument_kinds; role = role.Declares kind.Function }
 
 -- the syntax of each kind of line; a cancellation point is called by its name, without arguments
@@ -100,6 +105,7 @@ syntax_of line_kind.Broadcast = line (codes "pthread_cond_broadcast") (cond_vari
 syntax_of line_kind.SemWait = line (codes "sem_wait") (semaphore ∷ []) role.Other
 syntax_of line_kind.SemTimedWait = line (codes "sem_timedwait") (Dest ∷ semaphore ∷ []) role.Other
 syntax_of line_kind.SemPost = line (codes "sem_post") (semaphore ∷ []) role.Other
+syntax_of line_kind.CallOnce = line (codes "pthread_once") (once_control ∷ function ∷ []) role.Other
 syntax_of line_kind.AtFork = line (codes "pthread_atfork") (Dest ∷ OptionalPlainFunction ∷ OptionalPlainFunction ∷ OptionalPlainFunction ∷ []) role.Other
 syntax_of line_kind.Fork = line (codes "fork") (Dest ∷ Dest ∷ []) role.Other
 syntax_of line_kind.WaitPid = line (codes "waitpid") (Dest ∷ Operand ∷ Dest ∷ []) role.Other
@@ -129,12 +135,12 @@ is_no_point _ = true
 unfoldable pub line_kinds : List LineKind
 line_kinds =
     line_kind.Declares kind.Global ∷ line_kind.Declares kind.Mutex ∷ line_kind.Declares kind.Cond ∷ line_kind.Declares kind.Sem ∷
-    line_kind.Declares kind.Function ∷ line_kind.Emit ∷ line_kind.Set ∷ line_kind.Add ∷ line_kind.Nop ∷ line_kind.If ∷ line_kind.Else ∷ line_kind.While ∷
+    line_kind.Declares kind.Once ∷ line_kind.Declares kind.Function ∷ line_kind.Emit ∷ line_kind.Set ∷ line_kind.Add ∷ line_kind.Nop ∷ line_kind.If ∷ line_kind.Else ∷ line_kind.While ∷
     line_kind.End ∷ line_kind.Do ∷ line_kind.Return ∷ line_kind.Create ∷ line_kind.Join ∷ line_kind.Detach ∷ line_kind.CancelThread ∷ line_kind.SelfId ∷
     line_kind.ThreadExit ∷ line_kind.TestCancel ∷ line_kind.SetState ∷ line_kind.SetMode ∷ line_kind.Push ∷ line_kind.Pop ∷ line_kind.KeyCreate ∷
     line_kind.KeyDelete ∷ line_kind.SetSpecific ∷ line_kind.GetSpecific ∷ line_kind.Lock ∷ line_kind.Unlock ∷ line_kind.CondWait ∷
     line_kind.CondTimedWait ∷ line_kind.Signal ∷ line_kind.Broadcast ∷ line_kind.SemWait ∷ line_kind.SemTimedWait ∷ line_kind.SemPost ∷
-    line_kind.AtFork ∷ line_kind.Fork ∷ line_kind.WaitPid ∷ line_kind.AtExit ∷ line_kind.ProcExit ∷ line_kind.ProcExitNow ∷ []
+    line_kind.CallOnce ∷ line_kind.AtFork ∷ line_kind.Fork ∷ line_kind.WaitPid ∷ line_kind.AtExit ∷ line_kind.ProcExit ∷ line_kind.ProcExitNow ∷ []
 
 -- a wait that no thread of a script ends: for an event outside the script, or for a signal
 abbrev pub is_foreign : PointWait → Bool

@@ -1,9 +1,7 @@
 -- Mutexes (XSH pthread_mutex_lock). Each mutex of a script is of the type PTHREAD_MUTEX_NORMAL and is not robust: a choice of this host.
 -- `next` is the pc of the next statement.
-use Rattle.std.specs.Prelude.{ℕ, Bool, false, not, [], ◌∷◌, nat_eq, slice_index, Some}
+use Rattle.std.specs.Prelude.{ℕ, Bool, [], ◌∷◌, nat_eq, slice_index, Some}
 use Rattle.pct_model.specs.declared.event.What.TheVariants as what
-use Rattle.pct_model.specs.declared.statement.Stmt.{Stmt}
-use Rattle.pct_model.specs.declared.statement.Stmt.TheVariants as statement
 use Rattle.pct_model.specs.declared.transition.SharedAction.TheVariants as shared_action
 use Rattle.pct_model.specs.declared.transition.Transition.{Transition}
 use Rattle.pct_model.specs.Transitions.{goes_on}
@@ -16,12 +14,6 @@ owns id m shared = nat_eq (slice_index shared.owners m) id
 -- no thread owns mutex m
 abbrev pub is_free_mutex : ℕ → SharedState → Bool
 is_free_mutex m shared = owns 0 m shared
-
--- the statement is pthread_mutex_lock of a mutex that has an owner. The owner itself is no exception: a thread that locks a mutex of this
--- type again deadlocks
-abbrev pub is_blocked : Stmt → SharedState → Bool
-is_blocked (statement.Lock m) shared = not (is_free_mutex m shared)
-is_blocked s shared = false
 
 -- pthread_mutex_lock: the thread with this id owns mutex m
 unfoldable pub locks : (next m id : ℕ) → Transition

@@ -13,6 +13,7 @@ use Rattle.pct_model.specs.declared.transition.ProcessAction.TheVariants as proc
 use Rattle.pct_model.specs.declared.transition.SharedAction.TheVariants as shared_action
 use Rattle.pct_model.specs.declared.transition.Transition.{Transition}
 use Rattle.pct_model.specs.ForkCalls.{leaves_handler}
+use Rattle.pct_model.specs.OnceCalls.{leaves_routine}
 use Rattle.pct_model.specs.Transitions.{goes_on, acts, no_change}
 use Rattle.pct_model.specs.ThreadEnds.{ends_by_exit}
 use Rattle.pct_model.specs.World.{SharedState}
@@ -33,6 +34,7 @@ returns_by kept kind.Handler v = record (acts []) { own = Some (own_action.Leave
 returns_by kept kind.Destructor v = record (acts []) { own = Some (own_action.Leave Ending) }
 returns_by kept kind.ExitFn v = record (acts []) { own = Some (own_action.Leave Exiting) }
 returns_by kept kind.ForkFn v = leaves_handler kept
+returns_by kept (kind.OnceFn o) v = leaves_routine o
 
 -- the process ends with a status of 8 bits, and its threads do nothing more: no cleanup handler and no destructor runs (XSH _exit)
 unfoldable pub ends_now : ℕ → Transition

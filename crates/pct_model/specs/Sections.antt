@@ -40,6 +40,7 @@ is_same kind.Global kind.Global = true
 is_same kind.Mutex kind.Mutex = true
 is_same kind.Cond kind.Cond = true
 is_same kind.Sem kind.Sem = true
+is_same kind.Once kind.Once = true
 is_same kind.Function kind.Function = true
 is_same _ _ = false
 

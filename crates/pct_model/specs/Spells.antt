@@ -22,6 +22,7 @@ declarations c kind.Global = map (λ name. token.Name name ∷ []) c.globals
 declarations c kind.Mutex = map (λ name. token.Name name ∷ []) c.mutexes
 declarations c kind.Cond = map (λ name. token.Name name ∷ []) c.conds
 declarations c kind.Sem = map (λ s. token.Name s.name ∷ token.Number s.count ∷ []) c.sems
+declarations c kind.Once = map (λ name. token.Name name ∷ []) c.onces
 declarations c kind.Function = map (λ f. token.Name f.name ∷ map (λ name. token.Name name) f.locals) c.funcs
 
 -- the encoding of a line in a function with these locals: its line kind, and its arguments with each name resolved
@@ -45,7 +46,7 @@ pub record SpellsContents (text : List ℕ) (c : Contents) : Type 0 where
 
 -- the declarations of a well-formed script
 abbrev pub contents_of : Script → Contents
-contents_of script = record { globals = script.globals; mutexes = script.mutexes; conds = script.conds; sems = script.sems; funcs = script.funcs }
+contents_of script = record { globals = script.globals; mutexes = script.mutexes; conds = script.conds; sems = script.sems; onces = script.onces; funcs = script.funcs }
 
 -- the text spells the script
 abbrev pub Spells : List ℕ → Script → Type 0

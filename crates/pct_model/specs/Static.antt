@@ -108,7 +108,7 @@ has_lines c f = is_name f.name && not (is_empty f.locals) && list_all is_name f.
 unfoldable pub has_text : Contents → Bool
 has_text c =
     list_all is_name c.globals && list_all is_name c.mutexes && list_all is_name c.conds
-    && list_all (λ s. is_name s.name && nat_le s.count MAX_COUNT) c.sems
+    && list_all (λ s. is_name s.name && nat_le s.count MAX_COUNT) c.sems && list_all is_name c.onces
     && list_all (has_lines c) c.funcs
 
 -- ---- the checks, on a script
@@ -128,13 +128,13 @@ statement_lines funcs = sum_by (λ f. length f.body) funcs
 -- the script is within all limits
 unfoldable pub keeps_limits : Contents → Bool
 keeps_limits c =
-    is_within c kind.Global && is_within c kind.Mutex && is_within c kind.Cond && is_within c kind.Sem && is_within c kind.Function
+    is_within c kind.Global && is_within c kind.Mutex && is_within c kind.Cond && is_within c kind.Sem && is_within c kind.Once && is_within c kind.Function
     && nat_le (statement_lines c.funcs) MAX_STATEMENTS
     && list_all (λ f. nat_le (length f.locals) MAX_LOCALS) c.funcs
 
 -- the names that the script declares outside functions, and those of its functions
 abbrev pub all_names : Contents → List (List ℕ)
-all_names c = c.globals ++ c.mutexes ++ c.conds ++ map (λ s. s.name) c.sems ++ names_of c.funcs
+all_names c = c.globals ++ c.mutexes ++ c.conds ++ map (λ s. s.name) c.sems ++ c.onces ++ names_of c.funcs
 
 -- no name is declared twice, nor a local of a function
 unfoldable pub has_each_name_once : Contents → Bool

@@ -20,6 +20,7 @@ use Rattle.pct_model.specs.Jumps.{open_of}
 use Rattle.pct_model.specs.Keys.{key_with}
 use Rattle.pct_model.specs.World.{Thread, SharedState, value_of}
 use Rattle.pct_model.specs.MutexCalls.{owns}
+use Rattle.pct_model.specs.OnceCalls.{once_at, is_fresh}
 use Rattle.pct_model.specs.Environment.{Environment, names_no_thread, is_detached_thread, waits_with_another_mutex}
 
 -- a test: whether a stop applies, and the stop
@@ -178,6 +179,8 @@ module _ (body : List Stmt) (shared : SharedState) (t : Thread) (environment : E
   -- XSH pthread_cond_wait, pthread_cond_timedwait
   stops_of frame (statement.CondWait c m) = stops_of_wait c m
   stops_of frame (statement.CondTimedWait result c m) = stops_of_wait c m
+  -- a limit of this host, where the init routine is called
+  stops_of frame (statement.CallOnce o f) = (is_fresh (once_at shared.onces o) && is_stack_full t.frames, why.StackFull) ∷ []
   -- a limit of this host
   stops_of frame (statement.Fork result child) = (has_begun_to_end t.reason, why.ForkInEnding) ∷ []
   -- XSH exit: undefined if it is called more than once

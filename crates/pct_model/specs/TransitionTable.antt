@@ -27,6 +27,7 @@ use Rattle.pct_model.specs.KeyCalls.{creates_key_by, deletes_key, sets_specific,
 use Rattle.pct_model.specs.MutexCalls.{locks, unlocks}
 use Rattle.pct_model.specs.CondCalls.{cond_wait_point, cond_timedwait_point, begins_wait, expires, reacquires, signals_by, broadcasts}
 use Rattle.pct_model.specs.SemCalls.{sem_wait_point, sem_timedwait_point, begins_sem_wait, ends_sem_wait, posts}
+use Rattle.pct_model.specs.OnceCalls.{once_at, calls_once}
 use Rattle.pct_model.specs.ForkCalls.{registers_fork, begins_fork, next_handler, goes_on_forking, begins_waitpid, waits_at}
 use Rattle.pct_model.specs.ThreadCalls.{creates_by, begins_join, joins_at, detaches, gets_self}
 use Rattle.pct_model.specs.ThreadEnds.{ends_by_exit, goes_on_ending}
@@ -94,6 +95,8 @@ module _ (passes : ℕ) (body : List Stmt) (shared : SharedState) (t : Thread) (
   runs frame (statement.SemWait s) = begins_sem_wait sem_wait_point s
   runs frame (statement.SemTimedWait result s) = begins_sem_wait sem_timedwait_point s
   runs frame (statement.SemPost s) = posts (suc frame.pc) s (slice_index shared.counts s)
+  -- XSH pthread_once. The routine gets 0 as its argument, a choice of this host
+  runs frame (statement.CallOnce o f) = calls_once (suc frame.pc) o f t.id (once_at shared.onces o)
   -- XSH pthread_atfork, fork, waitpid
   runs frame (statement.AtFork result prepare parent child) = registers_fork (length shared.fork_handlers) (suc frame.pc) result (record { prepare = prepare; parent = parent; child = child })
   runs frame (statement.Fork result child) = begins_fork (length shared.fork_handlers)

@@ -1,5 +1,5 @@
 -- Transitions: what a thread does in one step, as data. ScriptStatements.antt, CleanupHandlers.antt, ThreadCalls.antt,
--- CancelCalls.antt, KeyCalls.antt, MutexCalls.antt, CondCalls.antt, SemCalls.antt, ForkCalls.antt, ThreadEnds.antt and
+-- CancelCalls.antt, KeyCalls.antt, MutexCalls.antt, CondCalls.antt, SemCalls.antt, OnceCalls.antt, ForkCalls.antt, ThreadEnds.antt and
 -- ProcessExit.antt give the transitions; Actions.antt gives what a transition changes.
 use Rattle.std.specs.Prelude.{ℕ, List, [], ◌∷◌, Some, None}
 use Rattle.pct_model.specs.declared.event.What.{What}

@@ -14,6 +14,8 @@ use Rattle.pct_model.specs.declared.state.State.{State}
 use Rattle.pct_model.specs.declared.state.State.TheVariants.{Enable}
 use Rattle.pct_model.specs.declared.state.Mode.{Mode}
 use Rattle.pct_model.specs.declared.state.Mode.TheVariants.{Deferred}
+use Rattle.pct_model.specs.declared.state.OnceState.{OnceState}
+use Rattle.pct_model.specs.declared.state.OnceState.TheVariants.{Fresh}
 use Rattle.pct_model.specs.declared.state.Reason.{Reason}
 use Rattle.pct_model.specs.declared.state.Reason.TheVariants as reason
 use Rattle.pct_model.specs.declared.state.Status.{Status}
@@ -55,6 +57,8 @@ pub record SharedState : Type 0 where
   pub owners : List ℕ
   -- the count of each semaphore
   pub counts : List ℕ
+  -- the state of each once control (XSH pthread_once)
+  pub onces : List OnceState
   -- the keys of thread-specific data, by place
   pub keys : List KeyPlace
   -- the registrations of fork handlers, in their order (XSH pthread_atfork)
@@ -132,7 +136,7 @@ new_thread id detached frame = record { id = id; detached = detached; joined = f
 
 -- the shared state at the start of a script
 abbrev pub new_shared : Script → SharedState
-new_shared script = record { globals = replicate (length script.globals) 0; owners = replicate (length script.mutexes) 0; counts = map (λ d. d.count) script.sems; keys = no_keys; fork_handlers = []; exit_functions = []; exit_value = None; restricted = false }
+new_shared script = record { globals = replicate (length script.globals) 0; owners = replicate (length script.mutexes) 0; counts = map (λ d. d.count) script.sems; onces = replicate (length script.onces) Fresh; keys = no_keys; fork_handlers = []; exit_functions = []; exit_value = None; restricted = false }
 
 -- process 1, with thread 1 in `main`
 abbrev pub first_process : Script → Process

@@ -101,6 +101,10 @@ impl LineKind {
             LineKind::SemWait => &[ArgumentKind::Item(SymbolKind::Sem)],
             LineKind::SemTimedWait => &[ArgumentKind::Dest, ArgumentKind::Item(SymbolKind::Sem)],
             LineKind::SemPost => &[ArgumentKind::Item(SymbolKind::Sem)],
+            LineKind::CallOnce => &[
+                ArgumentKind::Item(SymbolKind::Once),
+                ArgumentKind::Item(SymbolKind::Function),
+            ],
             LineKind::AtFork => &[
                 ArgumentKind::Dest,
                 ArgumentKind::OptionalPlainFunction,

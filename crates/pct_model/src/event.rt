@@ -15,7 +15,7 @@ pub enum Caller {
     SemTimedWait,
 }
 
-/// What happened. Functions, mutexes, condition variables and semaphores are given by their indexes in the script, and
+/// What happened. Functions, mutexes, condition variables, semaphores and once controls are given by their indexes in the script, and
 /// cancellation points by their indexes in the table of points.
 #[derive(Clone, Copy)]
 pub enum What {
@@ -50,6 +50,8 @@ pub enum What {
     HandedOn(u32, u32),
     Taken(u32),
     Posted(u32),
+    OnceCalled(u32),
+    OnceDone(u32),
     Forked(u32),
     PrepareRun(u32),
     ParentRun(u32),

@@ -115,6 +115,7 @@ pub use state::Cause;
 pub use state::ForkAt;
 pub use state::FrameKind;
 pub use state::Mode;
+pub use state::OnceState;
 pub use state::Phase;
 pub use state::Reason;
 pub use state::State;

@@ -3,7 +3,7 @@
 
 /// Bytes of the program's input.
 pub const MAX_INPUT: u32 = 16_777_216;
-/// Globals of a script; and mutexes, condition variables and semaphores, each.
+/// Globals of a script; and mutexes, condition variables, semaphores and once controls, each.
 pub const MAX_DECLARED: usize = 32;
 /// Functions of a script.
 pub const MAX_FUNCTIONS: usize = 64;

@@ -7,6 +7,7 @@ pub enum SymbolKind {
     Mutex,
     Cond,
     Sem,
+    Once,
     Function,
 }
 
@@ -25,7 +26,7 @@ pub enum ArgumentKind {
     Variable,
     /// The name of a variable that gets a value, or `-` where the value is dropped.
     Dest,
-    /// The name of a function, mutex, condition variable or semaphore.
+    /// The name of a function, mutex, condition variable, semaphore or once control.
     Item(SymbolKind),
     /// The name of a function, or `-` where there is none.
     OptionalFunction,
@@ -103,6 +104,8 @@ pub enum LineKind {
     SemTimedWait,
     /// sem_post
     SemPost,
+    /// pthread_once
+    CallOnce,
     /// pthread_atfork
     AtFork,
     /// fork
@@ -121,11 +124,12 @@ pub enum LineKind {
 }
 
 /// The line kinds with a keyword of their own, in the order of `line_kinds`: all but the cancellation points.
-pub static LINE_KINDS: [LineKind; 45] = [
+pub static LINE_KINDS: [LineKind; 47] = [
     LineKind::Declares(SymbolKind::Global),
     LineKind::Declares(SymbolKind::Mutex),
     LineKind::Declares(SymbolKind::Cond),
     LineKind::Declares(SymbolKind::Sem),
+    LineKind::Declares(SymbolKind::Once),
     LineKind::Declares(SymbolKind::Function),
     LineKind::Emit,
     LineKind::Set,
@@ -161,6 +165,7 @@ pub static LINE_KINDS: [LineKind; 45] = [
     LineKind::SemWait,
     LineKind::SemTimedWait,
     LineKind::SemPost,
+    LineKind::CallOnce,
     LineKind::AtFork,
     LineKind::Fork,
     LineKind::WaitPid,

@@ -33,7 +33,7 @@ pub enum Argument {
     Local(u32),
     /// A global, by index.
     Global(u32),
-    /// A function, mutex, condition variable or semaphore, by its index among the declarations of its kind.
+    /// A function, mutex, condition variable, semaphore or once control, by its index among the declarations of its kind.
     Item(u32),
     /// `-`
     #[default]

@@ -30,8 +30,9 @@ pub struct Script {
     pub mutexes: Names,
     pub conds: Names,
     pub sems: SemDecls,
+    pub onces: Names,
     pub funcs: Funcs,
-    ghost passes_checks: { IsTrue (is_static (record { globals = globals; mutexes = mutexes; conds = conds; sems = sems; funcs = funcs })) },
+    ghost passes_checks: { IsTrue (is_static (record { globals = globals; mutexes = mutexes; conds = conds; sems = sems; onces = onces; funcs = funcs })) },
 }
 
 /// The index of the first function named `main`, or the number of functions if there is none.

@@ -13,7 +13,7 @@ use crate::statement::Stmt;
 pub fn format_of(script: &Script) -> Format
     ensures { result ≡ format_of script.now }
 {
-    if have_timed(script.funcs.as_slice()) {
+    if have_timed(script.funcs.as_slice()) || !script.onces.as_slice().is_empty() {
         Format::Two
     } else {
         Format::One

@@ -32,6 +32,18 @@ pub enum Cause {
     TimedOut,
 }
 
+/// The state of a once control (XSH pthread_once).
+#[derive(Clone, Copy, Debug, Default)]
+pub enum OnceState {
+    /// The init routine was not called, or it is as if it was not.
+    #[default]
+    Fresh,
+    /// The thread with this id called the init routine, which has not returned.
+    Busy(u32),
+    /// The init routine has returned.
+    Done,
+}
+
 /// Why a thread began to end; `None` for a thread that did not.
 #[derive(Clone, Copy, Debug)]
 pub enum Reason {
@@ -95,4 +107,6 @@ pub enum FrameKind {
     ForkFn,
     /// A function registered by atexit, by exit.
     ExitFn,
+    /// An init routine, by pthread_once of the once control with this index.
+    OnceFn(u32),
 }

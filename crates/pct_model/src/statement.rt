@@ -22,7 +22,7 @@ pub enum Dest {
     Global(u32),
 }
 
-/// A statement. Functions, mutexes, condition variables and semaphores are given by their indexes in the script, and
+/// A statement. Functions, mutexes, condition variables, semaphores and once controls are given by their indexes in the script, and
 /// cancellation points by their indexes in the table of points.
 #[derive(Clone, Copy)]
 pub enum Stmt {
@@ -114,6 +114,11 @@ pub enum Stmt {
     },
     /// sem_post
     SemPost(u32),
+    /// pthread_once
+    CallOnce {
+        once: u32,
+        func: u32,
+    },
     /// pthread_atfork
     AtFork {
         result: Dest,

@@ -71,6 +71,7 @@ impl LineKind {
             LineKind::SemWait => Some(b"sem_wait"),
             LineKind::SemTimedWait => Some(b"sem_timedwait"),
             LineKind::SemPost => Some(b"sem_post"),
+            LineKind::CallOnce => Some(b"pthread_once"),
             LineKind::AtFork => Some(b"pthread_atfork"),
             LineKind::Fork => Some(b"fork"),
             LineKind::WaitPid => Some(b"waitpid"),
@@ -93,6 +94,7 @@ impl SymbolKind {
             SymbolKind::Mutex => b"mutex",
             SymbolKind::Cond => b"cond",
             SymbolKind::Sem => b"sem",
+            SymbolKind::Once => b"once",
             SymbolKind::Function => b"fn",
         }
     }

@@ -2,12 +2,12 @@
 
 use crate::event::What;
 use crate::process::ForkHandlers;
-use crate::state::{ForkAt, FrameKind, Mode, Reason, State, Status};
+use crate::state::{ForkAt, FrameKind, Mode, OnceState, Reason, State, Status};
 use crate::statement::Dest;
 use crate::stop::Why;
 use crate::up_to_three::UpToThree;
 
-/// An action of a thread on itself.
+/// An action of a thread on itself. As it begins to end, the once controls that are busy with it change, too.
 #[derive(Clone, Copy)]
 pub enum OwnAction {
     /// It calls a function with an argument, and runs in the new frame.
@@ -47,7 +47,8 @@ pub enum OwnAction {
     SetSpecific(u32, u32),
     /// It begins a pass over the destructors of its thread-specific data.
     BeginPass,
-    /// It begins to end, for a reason: it leaves all its frames, and its cancelability is disabled and deferred.
+    /// It begins to end, for a reason: it leaves all its frames, and its cancelability is disabled and deferred. Each once control that is
+    /// busy with it is fresh again.
     BeginEnd(Reason),
     /// It ends with a value.
     EndThread(u32),
@@ -68,6 +69,8 @@ pub enum SharedAction {
     OwnMutex(u32, u32),
     /// The semaphore with this index gets this count.
     SetCount(u32, u32),
+    /// The once control with this index gets this state.
+    SetOnce(u32, OnceState),
     /// Fork handlers are registered.
     AddForkHandlers(ForkHandlers),
     /// A function is registered, to be called as the process exits.

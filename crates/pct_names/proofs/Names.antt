@@ -129,6 +129,8 @@ pub use Rattle.pct_model.specs.declared.state.FrameKind.{FrameKind}
 pub use Rattle.pct_model.specs.declared.state.FrameKind.TheVariants.{Main, Start}
 pub use Rattle.pct_model.specs.declared.state.Mode.{Mode}
 pub use Rattle.pct_model.specs.declared.state.Mode.TheVariants.{Asynchronous, Deferred}
+pub use Rattle.pct_model.specs.declared.state.OnceState.{OnceState}
+pub use Rattle.pct_model.specs.declared.state.OnceState.TheVariants.{Busy, Fresh}
 pub use Rattle.pct_model.specs.declared.state.Phase.{Phase}
 pub use Rattle.pct_model.specs.declared.state.Phase.TheVariants.{Parent, Prepare}
 pub use Rattle.pct_model.specs.declared.state.Reason.{Reason}
@@ -153,7 +155,7 @@ pub use Rattle.pct_model.specs.Actions.{as_reaped, at_pc, changed, frames_writte
 pub use Rattle.pct_model.specs.Actions.{moved, orphaned, process_made, process_moved, replica_of, set_local, shared_moved, thread_created}
 pub use Rattle.pct_model.specs.Actions.{thread_moved, threads_moved, without_first, written}
 unfoldable pub use Rattle.pct_model.specs.Actions.{after_transition, child_by, child_of, inherited, named_after, other_process_after}
-unfoldable pub use Rattle.pct_model.specs.Actions.{own_after, process_after, shared_after, stop_after, thread_at}
+unfoldable pub use Rattle.pct_model.specs.Actions.{onces_after, own_after, process_after, shared_after, stop_after, thread_at}
 pub use Rattle.pct_model.specs.CancelCalls.{is_optional, is_required, mode_if, mode_number, state_if, state_number, testcancel_point}
 unfoldable pub use Rattle.pct_model.specs.CancelCalls.{acts_on_request, called_kind, calls_point, may_pass_point, passes_point, point_kind}
 unfoldable pub use Rattle.pct_model.specs.CancelCalls.{requests, sets_mode, sets_state, tests_cancel}
@@ -166,7 +168,7 @@ unfoldable pub use Rattle.pct_model.specs.Checks.{checks, declares_again, exceed
 unfoldable pub use Rattle.pct_model.specs.Checks.{name_twice, names_other, no_main, none_wrong, not_plain, plain_names, return_in_push}
 unfoldable pub use Rattle.pct_model.specs.Checks.{too_many, unknown_name, uses_unknown}
 pub use Rattle.pct_model.specs.ChoiceTable.{ChoiceRow, act_if, can_expire, choices_of, dtor_or_go, expire_if, first_row, go_if}
-pub use Rattle.pct_model.specs.ChoiceTable.{hand_on_or_act, is_create, is_enabled, is_key_create, is_signal, is_timed_wait, new_or_go}
+pub use Rattle.pct_model.specs.ChoiceTable.{hand_on_or_act, is_blocked, is_create, is_enabled, is_key_create, is_signal, is_timed_wait, new_or_go}
 pub use Rattle.pct_model.specs.ChoiceTable.{offers, pick_or_go, same_choice, unblocked_acts, waiters_to_signal}
 unfoldable pub use Rattle.pct_model.specs.ChoiceTable.{choices_at, ending_choices, running_choices, running_rows}
 pub use Rattle.pct_model.specs.Chosen.{Candidate, candidate, entry_for, item_at, ready_of}
@@ -205,13 +207,15 @@ pub use Rattle.pct_model.specs.LineParsing.{spell_something}
 unfoldable pub use Rattle.pct_model.specs.LineParsing.{numeral, parsed, parsed_words, spelled_lines, token_at, tokens_at, words_in}
 pub use Rattle.pct_model.specs.Lines.{without_empty_last, words_of, ◌>>=◌}
 unfoldable pub use Rattle.pct_model.specs.Lines.{lines_of, number_of, split_once, strip_cr}
-pub use Rattle.pct_model.specs.MutexCalls.{is_blocked, is_free_mutex, owns}
+pub use Rattle.pct_model.specs.MutexCalls.{is_free_mutex, owns}
 unfoldable pub use Rattle.pct_model.specs.MutexCalls.{locks, unlocks}
 pub use Rattle.pct_model.specs.Names.{index_among, is_digit, is_name_byte, names_of}
 unfoldable pub use Rattle.pct_model.specs.Names.{all_different, is_name, main_of, name_at}
 pub use Rattle.pct_model.specs.Nesting.{Blocks, faulty_or, kinds_of, nesting, nests_or, opened_by}
 unfoldable pub use Rattle.pct_model.specs.Nesting.{are_nested, change_at, inside, nesting_in, open_after, open_after_line, outside}
 pub use Rattle.pct_model.specs.NextStatement.{NextStatement, NoStatement, StatementIn, body_at, next_in, next_of}
+pub use Rattle.pct_model.specs.OnceCalls.{abandoned, is_busy, is_fresh, once_at}
+unfoldable pub use Rattle.pct_model.specs.OnceCalls.{calls_once, leaves_routine}
 pub use Rattle.pct_model.specs.OtherProcesses.{Family, family_of, is_running_child, is_unreaped, pid_after, relative_of}
 unfoldable pub use Rattle.pct_model.specs.OtherProcesses.{family_among}
 pub use Rattle.pct_model.specs.Environment.{Environment, Waiter, exit_value_of, exit_value_with, is_detached_thread, is_ended_thread}

@@ -3,12 +3,12 @@ use Rattle.pct_names.proofs.Names.{◌+◌, ◌++◌, ◌<◌, [], ap, Argument,
 use Rattle.pct_names.proofs.Names.{declaration_line, drop, drop-cons, drop_all, flat_map, flat_map-cons, flat_map-map, Func, function_lines}
 use Rattle.pct_names.proofs.Names.{get_or, get_or_from_slice_get, inl, inr, join_with_byte, length, line_text, List, map, None, refl}
 use Rattle.pct_names.proofs.Names.{script_lines, SemDecl, slice_get, slice_get_cases, slice_get_within, Some, statement_words, suc, sym}
-use Rattle.pct_names.proofs.Names.{text_of, ℕ, ◌∙◌, ◌∷◌, ◌≡◌, ◌≤◌, ◌⊎◌}
+use Rattle.pct_names.proofs.Names.{SymbolKind, text_of, ℕ, ◌∙◌, ◌∷◌, ◌≡◌, ◌≤◌, ◌⊎◌}
 use Rattle.std.proofs.Common.{append_assoc}
 use Rattle.std.proofs.lemmas.List.{append-nil}
 use Rattle.std.proofs.lemmas.Grind.{flat_map-append}
 use Rattle.pct_model.specs.declared.line_kind.SymbolKind.TheVariants as kind
-use Rattle.pct_printer.specs.Printing.{spaced, declarations_text, arguments_text, body_text, functions_text}
+use Rattle.pct_printer.specs.Printing.{spaced, names_text, declarations_text, arguments_text, body_text, functions_text}
 
 -- words separated by spaces are the first word, and the others, each after a space
 pub joined : (w : List ℕ) (words : List (List ℕ)) → join_with_byte 32 (w ∷ words) ≡ w ++ spaced words
@@ -85,15 +85,18 @@ functions_are c (f ∷ funcs) =
 pub script_is : (c : Contents) → text_of (script_lines c) ≡ declarations_text c ++ functions_text c c.funcs
 unfolding script_lines
 script_is c =
-    let globals = map (λ (name : List ℕ). declaration_line kind.Global (name ∷ [])) c.globals in
-    let mutexes = map (λ (name : List ℕ). declaration_line kind.Mutex (name ∷ [])) c.mutexes in
-    let conds = map (λ (name : List ℕ). declaration_line kind.Cond (name ∷ [])) c.conds in
+    let names : SymbolKind → List (List ℕ) → List (List (List ℕ)) = λ k declared. map (λ (name : List ℕ). declaration_line k (name ∷ [])) declared in
+    let globals = names kind.Global c.globals in
+    let mutexes = names kind.Mutex c.mutexes in
+    let conds = names kind.Cond c.conds in
     let sems = map (λ (s : SemDecl). declaration_line kind.Sem (s.name ∷ decimal s.count ∷ [])) c.sems in
-    let functions = flat_map (function_lines c) c.funcs in
-    onto (((globals ++ mutexes) ++ conds) ++ sems) functions _ _
+    let onces = names kind.Once c.onces in
+    let are : (k : SymbolKind) (declared : List (List ℕ)) → text_of (names k declared) ≡ names_text k declared =
+    λ k declared. flat_map-map line_text (λ (name : List ℕ). declaration_line k (name ∷ [])) declared in
+    onto ((((globals ++ mutexes) ++ conds) ++ sems) ++ onces) (flat_map (function_lines c) c.funcs) _ _
+    (onto (((globals ++ mutexes) ++ conds) ++ sems) onces _ _
     (onto ((globals ++ mutexes) ++ conds) sems _ _
-    (onto (globals ++ mutexes) conds _ _
-    (onto globals mutexes _ _ (flat_map-map line_text (λ (name : List ℕ). declaration_line kind.Global (name ∷ [])) c.globals) (flat_map-map line_text (λ (name : List ℕ). declaration_line kind.Mutex (name ∷ [])) c.mutexes))
-    (flat_map-map line_text (λ (name : List ℕ). declaration_line kind.Cond (name ∷ [])) c.conds))
+    (onto (globals ++ mutexes) conds _ _ (onto globals mutexes _ _ (are kind.Global c.globals) (are kind.Mutex c.mutexes)) (are kind.Cond c.conds))
     (flat_map-map line_text (λ (s : SemDecl). declaration_line kind.Sem (s.name ∷ decimal s.count ∷ [])) c.sems))
+    (are kind.Once c.onces))
     (functions_are c c.funcs)

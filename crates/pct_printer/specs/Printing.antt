@@ -28,13 +28,13 @@ sems_text sems = flat_map (λ s. line_text (declaration_line kind.Sem (s.name �
 abbrev pub two_kinds_text : Contents → List ℕ
 two_kinds_text c = names_text kind.Global c.globals ++ names_text kind.Mutex c.mutexes
 
--- all declarations that are a name alone
+-- the lines that declare globals, mutexes and condition variables
 abbrev pub all_names_text : Contents → List ℕ
 all_names_text c = two_kinds_text c ++ names_text kind.Cond c.conds
 
 -- all declarations except those of functions
 abbrev pub declarations_text : Contents → List ℕ
-declarations_text c = all_names_text c ++ sems_text c.sems
+declarations_text c = all_names_text c ++ sems_text c.sems ++ names_text kind.Once c.onces
 
 -- the first two words of a `fn` line
 abbrev pub fn_text : List ℕ → List ℕ

@@ -60,6 +60,7 @@ fn item_name(script: &Script, kind: SymbolKind, at: u32) -> &[u8]
         SymbolKind::Mutex => name_at(script.mutexes.as_slice(), at),
         SymbolKind::Cond => name_at(script.conds.as_slice(), at),
         SymbolKind::Sem => sem_name(script.sems.as_slice(), at),
+        SymbolKind::Once => name_at(script.onces.as_slice(), at),
         SymbolKind::Function => function_name(script.funcs.as_slice(), at),
     }
 }

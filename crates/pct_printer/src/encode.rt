@@ -159,6 +159,10 @@ pub(crate) fn encode(statement: Stmt) -> EncodedStmt
             &[dest(result), Argument::Item(sem)],
         ),
         Stmt::SemPost(s) => with(LineKind::SemPost, &[Argument::Item(s)]),
+        Stmt::CallOnce { once, func } => with(
+            LineKind::CallOnce,
+            &[Argument::Item(once), Argument::Item(func)],
+        ),
         Stmt::AtFork {
             result,
             prepare,

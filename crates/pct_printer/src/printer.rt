@@ -40,10 +40,11 @@ fn write_declarations<K: Sink>(sink: &mut K, script: &Script) -> Result<(), Fail
     ensures { Writes K.written K.errors K.inners sink.old sink.new (declarations_text (contents_of script.now)) result }
 {
     write_names(sink, script)?;
-    write_sems(sink, script.sems.as_slice())
+    write_sems(sink, script.sems.as_slice())?;
+    write_names_of(sink, SymbolKind::Once, script.onces.as_slice())
 }
 
-// The declarations that are a name alone.
+// The declarations of globals, mutexes and condition variables.
 fn write_names<K: Sink>(sink: &mut K, script: &Script) -> Result<(), Failed>
     ensures { Writes K.written K.errors K.inners sink.old sink.new (all_names_text (contents_of script.now)) result }
 {

@@ -4,6 +4,8 @@ use Rattle.pct_names.proofs.Names.{length-replicate, List, Main, main_of, map, m
 use Rattle.pct_names.proofs.Names.{Option, refl, replicate, Script, SemDecl, slice_set, Some, suc, sym, zero, zero-mod, ℕ, ◌∙◌, ◌∷◌, ◌≡◌}
 use Rattle.pct_names.proofs.Names.{◌≤◌}
 use Rattle.pct_model.specs.declared.line_kind.SymbolKind.TheVariants as kind
+use Rattle.pct_model.specs.declared.state.OnceState.{OnceState}
+use Rattle.pct_model.specs.declared.state.OnceState.TheVariants.{Fresh}
 use Rattle.pct_model.proofs.StaticFacts.{limits_kept}
 use Rattle.pct_threads.specs.Slots.{Held, Slot, unused, created, with_change, with_call_alone}
 use Rattle.pct_threads.specs.Tables.{next_id_at, on_held, with_created}
@@ -14,11 +16,11 @@ use Rattle.pct_engine_laws.proofs.OpeningSeen.{first_on_slot, first_thread, firs
 use Rattle.pct_process.specs.ThreadViews.{threads_of, slot_view}
 use Rattle.pct_process.specs.ProcessViews.{with_row, slots_of, shared_of, first_data}
 
--- a script declares few globals, mutexes and semaphores
-pub few_declared : (script : Script) → (length script.globals ≤ MAX_DECLARED) × (length script.mutexes ≤ MAX_DECLARED) × (length script.sems ≤ MAX_DECLARED)
+-- a script declares few globals, mutexes, semaphores and once controls
+pub few_declared : (script : Script) → (length script.globals ≤ MAX_DECLARED) × (length script.mutexes ≤ MAX_DECLARED) × (length script.sems ≤ MAX_DECLARED) × (length script.onces ≤ MAX_DECLARED)
 few_declared s =
-    let limits = (limits_kept (record { globals = s.globals; mutexes = s.mutexes; conds = s.conds; sems = s.sems; funcs = s.funcs }) s.passes_checks).kinds in
-    (limits kind.Global, limits kind.Mutex, omega (arith, limits kind.Sem, length-map s.sems (λ (d : SemDecl). d.name)))
+    let limits = (limits_kept (record { globals = s.globals; mutexes = s.mutexes; conds = s.conds; sems = s.sems; onces = s.onces; funcs = s.funcs }) s.passes_checks).kinds in
+    (limits kind.Global, limits kind.Mutex, omega (arith, limits kind.Sem, length-map s.sems (λ (d : SemDecl). d.name)), limits kind.Once)
 
 map-replicate : {A B : Type 0} (f : A → B) (n : ℕ) (x : A) → map f (replicate n x) ≡ replicate n (f x)
 map-replicate f zero x = refl
@@ -58,15 +60,15 @@ slots-of_first script n some =
     ∙ ap (λ (rows : List SeenSlot). slice_set rows 0 (first_on_slot (first_thread script))) (map-replicate slot_view n unused)
 
 -- the data of the first process
-pub data-first : (script : Script) (n func : ℕ) (threads : List Slot) (keys : Table) (globals owners counts : List ℕ) (handlers : List ForkHandlers) (functions : List ℕ) → 0 < n → func ≡ main_of (names_of script.funcs) → threads ≡ first_table n func → keys ≡ new_table n
-    → globals ≡ replicate (length script.globals) 0 → owners ≡ replicate (length script.mutexes) 0 → counts ≡ map (λ d. d.count) script.sems → handlers ≡ [] → functions ≡ []
-    → record { slots = slots_of keys.rows threads; shared = shared_of globals owners counts keys.places handlers functions None false } ≡ first_data n script
-data-first script n func threads keys globals owners counts handlers functions some main made none zeros free counted unhandled unregistered =
+pub data-first : (script : Script) (n func : ℕ) (threads : List Slot) (keys : Table) (globals owners counts : List ℕ) (onces : List OnceState) (handlers : List ForkHandlers) (functions : List ℕ) → 0 < n → func ≡ main_of (names_of script.funcs) → threads ≡ first_table n func → keys ≡ new_table n
+    → globals ≡ replicate (length script.globals) 0 → owners ≡ replicate (length script.mutexes) 0 → counts ≡ map (λ d. d.count) script.sems → onces ≡ replicate (length script.onces) Fresh → handlers ≡ [] → functions ≡ []
+    → record { slots = slots_of keys.rows threads; shared = shared_of globals owners counts onces keys.places handlers functions None false } ≡ first_data n script
+data-first script n func threads keys globals owners counts onces handlers functions some main made none zeros free counted uncalled unhandled unregistered =
     let table : threads ≡ first_table n (main_of (names_of script.funcs)) = made ∙ ap (first_table n) main in
-    ap (λ (k : Table). record { slots = slots_of k.rows threads; shared = shared_of globals owners counts k.places handlers functions None false }) none
-    ∙ ap (λ (ts : List Slot). record { slots = slots_of (replicate n no_values) ts; shared = shared_of globals owners counts no_keys handlers functions None false }) table
-    ∙ ap (λ (rows : List SeenSlot). record { slots = rows; shared = shared_of globals owners counts no_keys handlers functions None false }) (slots-of_first script n some ∙ sym (one_thread_on_first n (first_thread script) some (zero-mod n) refl))
-    ∙ (λ i. record { slots = (first_data n script).slots; shared = shared_of (zeros i) (free i) (counted i) no_keys (unhandled i) (unregistered i) None false })
+    ap (λ (k : Table). record { slots = slots_of k.rows threads; shared = shared_of globals owners counts onces k.places handlers functions None false }) none
+    ∙ ap (λ (ts : List Slot). record { slots = slots_of (replicate n no_values) ts; shared = shared_of globals owners counts onces no_keys handlers functions None false }) table
+    ∙ ap (λ (rows : List SeenSlot). record { slots = rows; shared = shared_of globals owners counts onces no_keys handlers functions None false }) (slots-of_first script n some ∙ sym (one_thread_on_first n (first_thread script) some (zero-mod n) refl))
+    ∙ (λ i. record { slots = (first_data n script).slots; shared = shared_of (zeros i) (free i) (counted i) (uncalled i) no_keys (unhandled i) (unregistered i) None false })
 
 -- each slot has a row
 pub rows-first : (n func : ℕ) (threads : List Slot) (keys : Table) → threads ≡ first_table n func → keys ≡ new_table n → length keys.rows ≡ length threads

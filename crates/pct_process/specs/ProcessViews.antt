@@ -2,6 +2,7 @@
 use Rattle.std.specs.Prelude.{◌≡◌, ℕ, Bool, true, not, List, [], ◌∷◌, map, slice_index_or, Option, Some, None, is_some, option_map}
 use Rattle.pct_model.specs.declared.process.ForkHandlers.{ForkHandlers}
 use Rattle.pct_model.specs.declared.script.Script.{Script}
+use Rattle.pct_model.specs.declared.state.OnceState.{OnceState}
 use Rattle.pct_model.specs.Keys.{KeyPlace, KeyValues}
 use Rattle.pct_model.specs.World.{Thread, SharedState, new_shared, first_process}
 use Rattle.pct_threads.specs.Slots.{Slot}
@@ -55,9 +56,9 @@ pub record ProcessData : Type 0 where
   pub shared : SharedState
 
 -- the state that the threads share
-abbrev pub shared_of : List ℕ → List ℕ → List ℕ → List KeyPlace → List ForkHandlers → List ℕ → Option ℕ → Bool → SharedState
-shared_of globals owners counts keys fork_handlers exit_functions exit_value restricted =
-    record { globals = globals; owners = owners; counts = counts; keys = keys; fork_handlers = fork_handlers; exit_functions = exit_functions; exit_value = exit_value; restricted = restricted }
+abbrev pub shared_of : List ℕ → List ℕ → List ℕ → List OnceState → List KeyPlace → List ForkHandlers → List ℕ → Option ℕ → Bool → SharedState
+shared_of globals owners counts onces keys fork_handlers exit_functions exit_value restricted =
+    record { globals = globals; owners = owners; counts = counts; onces = onces; keys = keys; fork_handlers = fork_handlers; exit_functions = exit_functions; exit_value = exit_value; restricted = restricted }
 
 -- the data of the first process before the first step, with this number of slots
 abbrev pub first_data : ℕ → Script → ProcessData

@@ -8,10 +8,10 @@ ghost use Rattle.pct_process.specs.ThreadViews.{has_no_other, record_inherited};
 
 use crate::exit_functions::ExitFunctions;
 use crate::fork_registrations::ForkRegistrations;
-use crate::numbers::Numbers;
+use crate::values::{Numbers, OnceControls, Values};
 use pct_io::NoMemory;
 use pct_keys::Keys;
-use pct_model::{ForkAt, FrameKind, Phase, Reason, Script, Status, main_of};
+use pct_model::{ForkAt, FrameKind, OnceState, Phase, Reason, Script, Status, main_of};
 use pct_set::SlotSet;
 use pct_threads::{Thread, Threads};
 use std::alloc::Global;
@@ -31,6 +31,8 @@ pub struct ProcessState {
     pub owners: Numbers,
     /// The count of each semaphore.
     pub counts: Numbers,
+    /// The state of each once control.
+    pub onces: OnceControls,
     /// The fork handlers that are registered with pthread_atfork.
     pub fork_handlers: ForkRegistrations,
     /// The functions that are registered with atexit.
@@ -47,7 +49,7 @@ impl Model for ProcessState {
 
     ghost Value = { ProcessData };
 
-    ghost view = { λ p. record { slots = slots_of p.keys.rows p.threads; shared = shared_of p.globals p.owners p.counts p.keys.places p.fork_handlers p.exit_functions p.exit_value p.restricted } };
+    ghost view = { λ p. record { slots = slots_of p.keys.rows p.threads; shared = shared_of p.globals p.owners p.counts p.onces p.keys.places p.fork_handlers p.exit_functions p.exit_value p.restricted } };
 
     ghost invariant = { λ p. length p.keys.rows ≡ length p.threads };
 }
@@ -74,9 +76,10 @@ impl ProcessState {
         Ok(ProcessState {
             threads,
             keys: Keys::new(alloc, slots)?,
-            globals: Numbers::new(script.globals.as_slice().len()),
-            owners: Numbers::new(script.mutexes.as_slice().len()),
-            counts: Numbers::counts_of(script.sems.as_slice()),
+            globals: Values::new(script.globals.as_slice().len(), 0),
+            owners: Values::new(script.mutexes.as_slice().len(), 0),
+            counts: Values::counts_of(script.sems.as_slice()),
+            onces: Values::new(script.onces.as_slice().len(), OnceState::Fresh),
             fork_handlers: ForkRegistrations::new(),
             exit_functions: ExitFunctions::new(),
             exit_value: None,
@@ -90,9 +93,10 @@ impl ProcessState {
         Ok(ProcessState {
             threads: Threads::new(alloc, 1)?,
             keys: Keys::new(alloc, 1)?,
-            globals: Numbers::new(0),
-            owners: Numbers::new(0),
-            counts: Numbers::new(0),
+            globals: Values::new(0, 0),
+            owners: Values::new(0, 0),
+            counts: Values::new(0, 0),
+            onces: Values::new(0, OnceState::Fresh),
             fork_handlers: ForkRegistrations::new(),
             exit_functions: ExitFunctions::new(),
             exit_value: None,
@@ -112,6 +116,7 @@ impl ProcessState {
         self.globals.copy_from(&parent.globals);
         self.owners.copy_from(&parent.owners);
         self.counts.copy_from(&parent.counts);
+        self.onces.copy_from(&parent.onces);
         self.fork_handlers.copy_from(&parent.fork_handlers);
         self.exit_functions.copy_from(&parent.exit_functions);
         self.exit_value = None;

@@ -17,7 +17,7 @@ use Rattle.pct_transition_cases.proofs.PlacedStatements.{IsPlaced, is_placed}
 use Rattle.pct_transition_cases.proofs.TransitionCases.{TransitionCase, rests, stopped, jumped, emitted, variable_set, variable_added}
 use Rattle.pct_transition_cases.proofs.TransitionCases.{function_called, main_returned, start_returned, call_left, handler_left}
 use Rattle.pct_transition_cases.proofs.TransitionCases.{exit_function_left, canceled, mutex_locked, mutex_unlocked, fork_handler_called}
-use Rattle.pct_transition_cases.proofs.TransitionCases.{fork_handler_left, handler_called}
+use Rattle.pct_transition_cases.proofs.TransitionCases.{fork_handler_left, handler_called, routine_called, routine_left}
 use Rattle.pct_thread_invariants.proofs.lift.ChangedThreads.{same_settled, named_keeps}
 use Rattle.pct_thread_invariants.proofs.lift.EveryThread.{of_made_thread, IsThreadRule, every_thread}
 use Rattle.pct_thread_invariants.proofs.lift.ReportedBy.{ThreadReading}
@@ -148,6 +148,7 @@ module _ (script : Script) (passes : ℕ) (shared : SharedState) (registered : R
   unfolding thread_at own_after
   case_outside t environment (function_called frame f v room) out = inl (called_outside (suc frame.pc) f (value_of shared.globals frame v) kind.Call refl t.frames t.kept room out)
   case_outside t environment (handler_called frame v f a handlers is room not_zero) out = inl (called_outside (suc frame.pc) f a kind.PopHandler refl t.frames t.kept room out)
+  case_outside t environment (routine_called frame o f fresh room) out = inl (called_outside (suc frame.pc) f 0 (kind.OnceFn o) refl t.frames t.kept room out)
   case_outside t environment (fork_handler_called next at call is) out = inr (record {
     runs = refl;
     is_handler = refl;
@@ -184,6 +185,7 @@ module _ (script : Script) (passes : ℕ) (shared : SharedState) (registered : R
     case_inside (call_left _ _ v returns kinds) plain = inl inside.rest
     case_inside (handler_left _ _ v returns kinds) plain = inl inside.rest
     case_inside (exit_function_left _ _ v returns is) plain = inl inside.rest
+    case_inside (routine_left _ _ v o returns is) plain = inl inside.rest
     case_inside (main_returned _ _ v returns is once) plain = inl without_frames
     case_inside (start_returned _ _ v returns is) plain = inl without_frames
     case_inside (canceled next delivered where_it_may) plain = inl without_frames

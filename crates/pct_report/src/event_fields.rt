@@ -5,7 +5,7 @@ ghost use Rattle.pct_model.specs.EventTexts.{event_words};
 ghost use Rattle.pct_report.specs.EventFields.{words_of};
 
 use crate::fields::Fields::{self, Four, One, Three, Two};
-use crate::names::{caller, cond, func, mutex, point, sem, word, word_if};
+use crate::names::{caller, cond, func, mutex, once, point, sem, word, word_if};
 use pct_io::Field::Number;
 use pct_model::{Keyword, Script, What};
 
@@ -66,6 +66,8 @@ pub fn fields_of_event(script: &Script, what: What) -> Fields<'_>
         What::HandedOn(c, id) => Two(Keyword::HandOn, cond(script, c), Number(id)),
         What::Taken(s) => One(Keyword::Take, sem(script, s)),
         What::Posted(s) => One(Keyword::Post, sem(script, s)),
+        What::OnceCalled(o) => Two(Keyword::Once, once(script, o), word(Keyword::Call)),
+        What::OnceDone(o) => Two(Keyword::Once, once(script, o), word(Keyword::Done)),
         What::Forked(pid) => One(Keyword::Fork, Number(pid)),
         What::PrepareRun(f) => One(Keyword::Prepare, func(script, f)),
         What::ParentRun(f) => One(Keyword::Parent, func(script, f)),

@@ -6,7 +6,7 @@ ghost use Rattle.pct_model.specs.Keywords.{keyword_text};
 ghost use Rattle.pct_model.specs.Names.{name_at};
 ghost use Rattle.pct_model.specs.Points.{point_name};
 ghost use Rattle.pct_model.specs.LineKinds.{syntax_of, is_no_point};
-ghost use Rattle.pct_model.specs.EventTexts.{either, caller_name, func_name, mutex_name, cond_name, sem_name};
+ghost use Rattle.pct_model.specs.EventTexts.{either, caller_name, func_name, mutex_name, cond_name, sem_name, once_name};
 
 use pct_cancel::point_name;
 use pct_io::Field;
@@ -91,6 +91,13 @@ pub fn sem(script: &Script, index: u32) -> Field<'_>
         None => Field::Text(&[]),
         Some(sem) => Field::Text(sem.name.as_bytes()),
     }
+}
+
+/// The name of a once control.
+pub fn once(script: &Script, index: u32) -> Field<'_>
+    ensures { field_text result ≡ once_name script.now index }
+{
+    name_at(script.onces.as_slice(), index)
 }
 
 // The name at an index.

@@ -37,12 +37,12 @@ statements =
 abbrev funcs : List Func
 funcs = record { name = codes "main"; locals = codes "x" ∷ []; body = statements } ∷ []
 
-passes : IsTrue (is_static (record { globals = []; mutexes = []; conds = []; sems = []; funcs = funcs }))
+passes : IsTrue (is_static (record { globals = []; mutexes = []; conds = []; sems = []; onces = []; funcs = funcs }))
 unfolding checks_on_literals
 passes = refl
 
 abbrev script : Script
-script = record { globals = []; mutexes = []; conds = []; sems = []; funcs = funcs; passes_checks = passes }
+script = record { globals = []; mutexes = []; conds = []; sems = []; onces = []; funcs = funcs; passes_checks = passes }
 
 -- ---- events
 
@@ -212,6 +212,15 @@ nor_set_the_type law = absurd (false≢true (ap is_deferred law.mode))
 
 another_sets_the_type : SetsCancelability (sets (what.ModeSet true ∷ []) (cancelable Enable Deferred) (cancelable Enable Asynchronous))
 another_sets_the_type = record { state = refl; mode = refl }
+
+it_is_asynchronous_then : SetsCancelability (sets (what.ModeSet true ∷ []) (cancelable Enable Deferred) (cancelable Enable Deferred)) → ⊥
+it_is_asynchronous_then law = absurd (false≢true (sym (ap is_deferred law.mode)))
+
+or_deferred : SetsCancelability (sets (what.ModeSet false ∷ []) (cancelable Enable Asynchronous) (cancelable Enable Deferred))
+or_deferred = record { state = refl; mode = refl }
+
+it_is_deferred_then : SetsCancelability (sets (what.ModeSet false ∷ []) (cancelable Enable Asynchronous) (cancelable Enable Asynchronous)) → ⊥
+it_is_deferred_then law = absurd (false≢true (ap is_deferred law.mode))
 
 it_is_disabled_and_deferred_at_the_end : SetsCancelability (sets (what.EndingCanceled ∷ []) (cancelable Enable Asynchronous) (cancelable Disable Deferred))
 it_is_disabled_and_deferred_at_the_end = record { state = refl; mode = refl }

@@ -94,12 +94,12 @@ function name body = record { name = name; locals = codes "x" ∷ []; body = bod
 abbrev funcs : List Func
 funcs = function (codes "f") (statement.End ∷ []) ∷ function (codes "main") statements ∷ []
 
-passes : IsTrue (is_static (record { globals = []; mutexes = []; conds = []; sems = []; funcs = funcs }))
+passes : IsTrue (is_static (record { globals = []; mutexes = []; conds = []; sems = []; onces = []; funcs = funcs }))
 unfolding checks_on_literals
 passes = refl
 
 abbrev script : Script
-script = record { globals = []; mutexes = []; conds = []; sems = []; funcs = funcs; passes_checks = passes }
+script = record { globals = []; mutexes = []; conds = []; sems = []; onces = []; funcs = funcs; passes_checks = passes }
 
 -- ---- steps
 

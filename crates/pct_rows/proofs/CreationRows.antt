@@ -29,7 +29,7 @@ unfolding checks_on_literals
 passes = refl
 
 abbrev script : Script
-script = record { globals = []; mutexes = []; conds = []; sems = []; funcs = funcs; passes_checks = passes }
+script = record { globals = []; mutexes = []; conds = []; sems = []; onces = []; funcs = funcs; passes_checks = passes }
 
 -- ---- pthread_create
 

@@ -118,7 +118,7 @@ not_those_that_the_thread_pushed_after_the_fork = refl
 of_exit : map is_of_exit (what.Emit 5 ∷ what.ExitRun 6 ∷ what.Acquired 0 ∷ what.Released 0 ∷ what.ProcessEnded 0 ∷ what.Stopped why.ThreadId ∷ []) ≡ replicate 6 true
 of_exit = refl
 
-not_of_exit : map is_of_exit (what.Called 25 ∷ what.Done 25 ∷ what.Created 2 false ∷ what.Joined 2 7 ∷ what.Request 1 ∷ what.StateSet true ∷ what.Forked 2 ∷ what.KeyMade 1 ∷ what.ExitBegun 0 ∷ []) ≡ replicate 9 false
+not_of_exit : map is_of_exit (what.Called 25 ∷ what.Done 25 ∷ what.Created 2 false ∷ what.Joined 2 7 ∷ what.Request 1 ∷ what.StateSet true ∷ what.Forked 2 ∷ what.KeyMade 1 ∷ what.OnceCalled 0 ∷ what.OnceDone 0 ∷ what.ExitBegun 0 ∷ []) ≡ replicate 11 false
 not_of_exit = refl
 
 -- the events of the life of a thread: of its handlers, its destructors, and its end. It has none of them as it exits its process, or after its

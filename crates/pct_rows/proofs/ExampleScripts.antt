@@ -13,7 +13,7 @@ use Rattle.pct_rows.proofs.OnLiterals.{checks_on_literals, runs_on_literals}
 
 -- a script of these functions is well-formed
 abbrev pub are_static : List Func → Bool
-are_static funcs = is_static (record { globals = []; mutexes = []; conds = []; sems = []; funcs = funcs })
+are_static funcs = is_static (record { globals = []; mutexes = []; conds = []; sems = []; onces = []; funcs = funcs })
 
 -- a function with the parameter `x`, these statements and its closing `end`
 abbrev pub function : List ℕ → List Stmt → Func
@@ -36,7 +36,7 @@ unfolding checks_on_literals
 smallest_passes = refl
 
 abbrev pub smallest : Script
-smallest = record { globals = []; mutexes = []; conds = []; sems = []; funcs = smallest_funcs; passes_checks = smallest_passes }
+smallest = record { globals = []; mutexes = []; conds = []; sems = []; onces = []; funcs = smallest_funcs; passes_checks = smallest_passes }
 
 -- the report of its run
 pub smallest_reported : report smallest default_config (replicate 2 first_goes) ≡ Some smallest_report
@@ -57,7 +57,7 @@ unfolding checks_on_literals
 cleanup_passes = refl
 
 abbrev pub cleanup : Script
-cleanup = record { globals = []; mutexes = []; conds = []; sems = []; funcs = cleanup_funcs; passes_checks = cleanup_passes }
+cleanup = record { globals = []; mutexes = []; conds = []; sems = []; onces = []; funcs = cleanup_funcs; passes_checks = cleanup_passes }
 
 -- the report of its run
 pub cleanup_reported : report cleanup default_config (replicate 7 first_goes) ≡ Some cleanup_report

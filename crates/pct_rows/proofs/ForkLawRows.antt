@@ -24,7 +24,7 @@ unfolding checks_on_literals
 passes = refl
 
 abbrev script : Script
-script = record { globals = []; mutexes = []; conds = []; sems = []; funcs = funcs; passes_checks = passes }
+script = record { globals = []; mutexes = []; conds = []; sems = []; onces = []; funcs = funcs; passes_checks = passes }
 
 -- ---- the handlers that are left
 
@@ -84,6 +84,7 @@ all_are_left = record {
   called = All-from_recursion (λ w. EachHandler w (step_to returned [] (in_phase phase.Prepare 3))) [] tt;
   made = λ answer answers. absurd (none-some answer answers);
   returned = λ fork in_fork was none. absurd (false≢true in_fork);
+  ends = λ in_fork quiet. absurd (false≢true in_fork);
   resumed = λ outside no_call stays. absurd (false≢true (sym no_call));
   kept = λ no_call no_answer quiet. absurd (false≢true (sym no_call));
 }
@@ -170,6 +171,7 @@ returns_with_none_left = record {
   made = λ answer answers. absurd (none-some answer answers);
   returned = λ fork in_fork was none.
       subst (λ (x : ForkAt). (left_to_call registered x ≡ []) × (x.phase ≢ phase.Prepare)) (same_Some (record { phase = phase.Parent; next = 3; length = 3; answer = 0 }) fork was) (refl, λ is. absurd (cc));
+  ends = λ in_fork quiet. refl;
   resumed = λ outside no_call stays. absurd (false≢true (sym outside));
   kept = λ no_call no_answer quiet. inr refl;
 }
@@ -185,6 +187,10 @@ nor_with_a_child_handler_left law =
 nor_before_the_fork : KeepsFork script (step_to (in_phase phase.Prepare 0) [] returned) → ⊥
 nor_before_the_fork law = (law.returned (record { phase = phase.Prepare; next = 0; length = 3; answer = 0 }) refl refl refl).1 refl
 
+-- with none left, the step without an event is the return
+it_returns_then : KeepsFork script (step_to (in_phase phase.Parent 3) [] (in_phase phase.Parent 3)) → ⊥
+it_returns_then law = none-some (record { phase = phase.Parent; next = 3; length = 3; answer = 0 }) (sym (law.ends refl refl))
+
 -- ---- the return of a handler
 
 a_handler_returns_to_its_fork : KeepsFork script (step_to (in_handler phase.Prepare 2) [] (in_phase phase.Prepare 2))
@@ -194,6 +200,7 @@ a_handler_returns_to_its_fork = record {
   called = All-from_recursion (λ w. EachHandler w (step_to (in_handler phase.Prepare 2) [] (in_phase phase.Prepare 2))) [] tt;
   made = λ answer answers. absurd (none-some answer answers);
   returned = λ fork in_fork was none. absurd (false≢true in_fork);
+  ends = λ in_fork quiet. absurd (false≢true in_fork);
   resumed = λ outside no_call stays. refl;
   kept = λ no_call no_answer quiet. inl refl;
 }
@@ -214,6 +221,7 @@ an_end_ends_the_fork = record {
   called = All-from_recursion (λ w. EachHandler w (step_to (in_handler phase.Prepare 2) (what.EndingCanceled ∷ []) returned)) (what.EndingCanceled ∷ []) (tt, tt);
   made = λ answer answers. absurd (none-some answer answers);
   returned = λ fork in_fork was none. absurd (false≢true in_fork);
+  ends = λ in_fork quiet. absurd (false≢true in_fork);
   resumed = λ outside no_call stays. absurd (false≢true (sym stays));
   kept = λ no_call no_answer quiet. inr refl;
 }

@@ -1,4 +1,4 @@
--- The formats of texts: of scripts, by their statements, and lines of schedules of each format.
+-- The formats of texts: of scripts, by their statements and declarations, and lines of schedules of each format.
 use Rattle.pct_names.proofs.Names.{[], codes, Contents, digits, entry_in, entry_of, false, format_of, has_choice, header_of, is_none}
 use Rattle.pct_names.proofs.Names.{is_static, IsTrue, keyword_text, List, map, None, number_of, refl, replicate, Script, SemDecl, Some}
 use Rattle.pct_names.proofs.Names.{Stmt, true, ◌++◌, ◌∷◌, ◌≡◌}
@@ -22,6 +22,7 @@ with_statement s = record {
   mutexes = codes "m" ∷ [];
   conds = codes "c" ∷ [];
   sems = semaphores;
+  onces = [];
   funcs = function (codes "f") (s ∷ []) ∷ function (codes "main") (statement.Return (operand.Num 0) ∷ []) ∷ [];
 }
 
@@ -31,6 +32,7 @@ script_of s passes = record {
   mutexes = codes "m" ∷ [];
   conds = codes "c" ∷ [];
   sems = semaphores;
+  onces = [];
   funcs = (with_statement s).funcs;
   passes_checks = passes;
 }
@@ -47,8 +49,17 @@ wait_passes : IsTrue (is_static (with_statement (statement.CondWait 0 0)))
 unfolding checks_on_literals
 wait_passes = refl
 
--- a script with a wait with a time has texts of format 2, whatever calls it; each other one has texts of format 1
-formats_of_scripts : map format_of (script_of (statement.CondTimedWait destination.Drop 0 0) timed_wait_passes ∷ script_of (statement.SemTimedWait destination.Drop 0) timed_sem_wait_passes ∷ script_of (statement.CondWait 0 0) wait_passes ∷ smallest ∷ []) ≡ format.Two ∷ format.Two ∷ format.One ∷ format.One ∷ []
+-- a script with a once control, which no statement names
+declares_once_passes : IsTrue (is_static (record { globals = []; mutexes = []; conds = []; sems = []; onces = codes "o" ∷ []; funcs = smallest.funcs }))
+unfolding checks_on_literals
+declares_once_passes = refl
+
+abbrev declares_once : Script
+declares_once = record { globals = []; mutexes = []; conds = []; sems = []; onces = codes "o" ∷ []; funcs = smallest.funcs; passes_checks = declares_once_passes }
+
+-- a script with a wait with a time has texts of format 2, whatever calls it, and so has one with a once control; each other one has texts
+-- of format 1
+formats_of_scripts : map format_of (script_of (statement.CondTimedWait destination.Drop 0 0) timed_wait_passes ∷ script_of (statement.SemTimedWait destination.Drop 0) timed_sem_wait_passes ∷ script_of (statement.CondWait 0 0) wait_passes ∷ smallest ∷ declares_once ∷ []) ≡ format.Two ∷ format.Two ∷ format.One ∷ format.One ∷ format.Two ∷ []
 unfolding format_of
 formats_of_scripts = refl
 

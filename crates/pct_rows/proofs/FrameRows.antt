@@ -1,8 +1,8 @@
 -- The law of frames: made steps that keep it, and made steps that do not. Each step that does not differs from one that does in one thing, and
 -- has the name of the sentence that it breaks.
 use Rattle.pct_names.proofs.Names.{[], ap, arith, Bool, codes, false, false≢true, first_process, Frame, FrameKind, Func, has_no_frame}
-use Rattle.pct_names.proofs.Names.{is_static, IsTrue, length, List, map, new_frame, new_thread, Option, refl, Script, slice_index, Some}
-use Rattle.pct_names.proofs.Names.{Status, Stmt, sym, Thread, true, What, ℕ, ◌∷◌, ◌≡◌}
+use Rattle.pct_names.proofs.Names.{is_static, IsTrue, length, List, map, new_frame, new_thread, None, none-some, Option, refl, Script}
+use Rattle.pct_names.proofs.Names.{slice_index, Some, Status, Stmt, sym, Thread, true, What, ℕ, ◌∷◌, ◌≡◌}
 use Rattle.pct_model.specs.declared.event.What.TheVariants as what
 use Rattle.pct_model.specs.declared.state.FrameKind.TheVariants as kind
 use Rattle.pct_model.specs.declared.state.Phase.TheVariants as phase
@@ -12,11 +12,12 @@ use Rattle.pct_model.specs.declared.statement.Operand.TheVariants as operand
 use Rattle.pct_model.specs.declared.statement.Stmt.TheVariants as statement
 use Rattle.pct_model.specs.declared.stop.Why.TheVariants as why
 use Rattle.pct_laws.specs.FrameLaw.{MovesFrames, Place, StaysInHandler}
+use Rattle.pct_laws.specs.Kept.{control_of}
 use Rattle.pct_laws.specs.ThreadSteps.{ThreadStep}
 use Rattle.pct_rows.proofs.ExampleScripts.{forking}
 use Rattle.pct_rows.proofs.OnLiterals.{checks_on_literals, runs_on_literals}
 
--- ---- a script in which `main` calls `work`
+-- ---- a script in which `main` calls `work`, also as an init routine
 
 abbrev statements : List Stmt
 statements =
@@ -34,6 +35,7 @@ statements =
     ∷ statement.Fork destination.Drop destination.Drop
     ∷ statement.Push 1 (operand.Num 4)
     ∷ statement.Pop (operand.Num 1)
+    ∷ statement.CallOnce 0 1
     ∷ statement.End ∷ []
 
 abbrev functions : List Func
@@ -41,12 +43,12 @@ functions =
     record { name = codes "main"; locals = codes "x" ∷ []; body = statements }
     ∷ record { name = codes "work"; locals = codes "x" ∷ []; body = statement.Emit (operand.Local 0) ∷ statement.End ∷ [] } ∷ []
 
-passes : IsTrue (is_static (record { globals = []; mutexes = []; conds = []; sems = []; funcs = functions }))
+passes : IsTrue (is_static (record { globals = []; mutexes = []; conds = []; sems = []; onces = codes "o" ∷ []; funcs = functions }))
 unfolding checks_on_literals
 passes = refl
 
 abbrev script : Script
-script = record { globals = []; mutexes = []; conds = []; sems = []; funcs = functions; passes_checks = passes }
+script = record { globals = []; mutexes = []; conds = []; sems = []; onces = codes "o" ∷ []; funcs = functions; passes_checks = passes }
 
 -- ---- steps
 
@@ -232,6 +234,37 @@ or_only_removes_it = record { places = refl; arguments = refl; runs = λ calls. 
 no_pop_is_executed_again : Moves status.Running (main 13 ∷ []) (what.Popped 1 4 true ∷ []) (work 0 4 kind.PopHandler ∷ main 13 ∷ []) → ⊥
 unfolding runs_on_literals
 no_pop_is_executed_again law = let n : ◌≡◌ {A = ℕ} 13 14 = ap lower_pc law.places in omega (arith, n)
+
+-- ---- init routines
+
+-- the control of the init routine on top
+abbrev top_control : List Place → Option ℕ
+top_control [] = None
+top_control (place ∷ below) = control_of place.2
+
+pthread_once_calls_the_routine : Moves status.Running (main 14 ∷ []) (what.OnceCalled 0 ∷ []) (work 0 0 (kind.OnceFn 0) ∷ main 15 ∷ [])
+unfolding runs_on_literals
+pthread_once_calls_the_routine = record { places = refl; arguments = refl; runs = λ calls. refl }
+
+with_the_argument_0 : Moves status.Running (main 14 ∷ []) (what.OnceCalled 0 ∷ []) (work 0 7 (kind.OnceFn 0) ∷ main 15 ∷ []) → ⊥
+unfolding runs_on_literals
+with_the_argument_0 law = let n : ◌≡◌ {A = ℕ} 7 0 = ap (top_local 0) law.arguments in omega (arith, n)
+
+as_that_of_its_control : Moves status.Running (main 14 ∷ []) (what.OnceCalled 0 ∷ []) (work 0 0 kind.Call ∷ main 15 ∷ []) → ⊥
+unfolding runs_on_literals
+as_that_of_its_control law = none-some 0 (ap top_control law.places)
+
+it_calls_it_if_it_says_so : Moves status.Running (main 14 ∷ []) (what.OnceCalled 0 ∷ []) (main 15 ∷ []) → ⊥
+unfolding runs_on_literals
+it_calls_it_if_it_says_so law = let n : ◌≡◌ {A = ℕ} 1 2 = ap depth law.places in omega (arith, n)
+
+or_else_it_goes_on : Moves status.Running (main 14 ∷ []) [] (main 15 ∷ [])
+unfolding runs_on_literals
+or_else_it_goes_on = record { places = refl; arguments = refl; runs = λ calls. refl }
+
+a_routine_returns_past_its_call : Moves status.Running (work 1 0 (kind.OnceFn 0) ∷ main 15 ∷ []) (what.OnceDone 0 ∷ []) (main 15 ∷ [])
+unfolding runs_on_literals
+a_routine_returns_past_its_call = record { places = refl; arguments = refl; runs = λ calls. refl }
 
 -- ---- the end of a thread, and the exit of its process
 

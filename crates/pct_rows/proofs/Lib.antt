@@ -25,6 +25,7 @@ mod WakeRows
 mod SharedRows
 mod CreationRows
 mod ForkLawRows
+mod OnceLawRows
 mod OneLawRows
 mod OptionRows
 mod EventRows

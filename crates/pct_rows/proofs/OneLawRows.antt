@@ -17,6 +17,7 @@ use Rattle.pct_laws.specs.Ends.{is_leftover}
 use Rattle.pct_laws.specs.FollowedEvents.{are_followed}
 use Rattle.pct_laws.specs.KnownThreads.{reports_end}
 use Rattle.pct_laws.specs.Once as Once
+use Rattle.pct_laws.specs.OnceLaw as OnceLaw
 use Rattle.pct_laws.specs.ProcessLaw as ProcessLaw
 use Rattle.pct_laws.specs.RanAll as RanAll
 use Rattle.pct_laws.specs.RequestsLaw as RequestsLaw
@@ -34,11 +35,12 @@ data Law : Type 0 where
   Requests : Law
   Joins : Law
   Conds : Law
+  Controls : Law
   Slots : Law
   Processes : Law
 
 abbrev laws : List Law
-laws = Handlers ∷ AllRan ∷ AfterEnds ∷ KeysOfEvents ∷ ValuesLeft ∷ Requests ∷ Joins ∷ Conds ∷ Slots ∷ Processes ∷ []
+laws = Handlers ∷ AllRan ∷ AfterEnds ∷ KeysOfEvents ∷ ValuesLeft ∷ Requests ∷ Joins ∷ Conds ∷ Controls ∷ Slots ∷ Processes ∷ []
 
 -- the events keep the law
 abbrev keeps : List Event → Law → Bool
@@ -50,21 +52,23 @@ keeps events ValuesLeft = are_followed is_leftover reports_end events
 keeps events Requests = each RequestsLaw.allows events
 keeps events Joins = each JoinLaw.allows events
 keeps events Conds = each CondLaw.allows events
+keeps events Controls = each OnceLaw.allows events
 keeps events Slots = each (SlotLaw.allows 64) events
 keeps events Processes = each ProcessLaw.allows events
 
 -- whether they keep each law, if they keep each but these
 abbrev but : Law → List Bool
-but Handlers = false ∷ replicate 9 true
-but AllRan = true ∷ false ∷ replicate 8 true
-but AfterEnds = replicate 2 true ++ false ∷ replicate 7 true
-but KeysOfEvents = replicate 3 true ++ false ∷ replicate 6 true
-but ValuesLeft = replicate 4 true ++ false ∷ replicate 5 true
-but Requests = replicate 5 true ++ false ∷ replicate 4 true
-but Joins = replicate 6 true ++ false ∷ replicate 3 true
-but Conds = replicate 7 true ++ false ∷ replicate 2 true
-but Slots = replicate 8 true ++ false ∷ true ∷ []
-but Processes = replicate 9 true ++ false ∷ []
+but Handlers = false ∷ replicate 10 true
+but AllRan = true ∷ false ∷ replicate 9 true
+but AfterEnds = replicate 2 true ++ false ∷ replicate 8 true
+but KeysOfEvents = replicate 3 true ++ false ∷ replicate 7 true
+but ValuesLeft = replicate 4 true ++ false ∷ replicate 6 true
+but Requests = replicate 5 true ++ false ∷ replicate 5 true
+but Joins = replicate 6 true ++ false ∷ replicate 4 true
+but Conds = replicate 7 true ++ false ∷ replicate 3 true
+but Controls = replicate 8 true ++ false ∷ replicate 2 true
+but Slots = replicate 9 true ++ false ∷ true ∷ []
+but Processes = replicate 10 true ++ false ∷ []
 
 -- the events keep each law but one
 abbrev OnlyRefuses : Law → List Event → Type 0
@@ -196,7 +200,7 @@ reaped_without_a_call = refl
 enabled_after_it_began_to_end : OnlyRefuses Requests (event (what.StateSet true) ∷ event (what.EndingExit 5) ∷ [])
 enabled_after_it_began_to_end = refl
 
--- ---- joins, mutexes, slots
+-- ---- joins, mutexes, once controls, slots
 
 -- a request names a thread that is not known
 requested_without_a_thread : OnlyRefuses Joins (event (what.Request 2) ∷ [])
@@ -213,6 +217,23 @@ timed_out_with_another_error = refl
 -- a wait with a time returns by the name of one without
 returned_by_another_name : OnlyRefuses Conds (event (what.Done cond_wait_point) ∷ event (what.Acquired 0) ∷ event (what.Released 0) ∷ event (what.Called cond_timedwait_point) ∷ event (what.Acquired 0) ∷ [])
 returned_by_another_name = refl
+
+-- an init routine is called while it runs, and once it has returned
+called_while_it_runs : OnlyRefuses Controls (event (what.OnceCalled 0) ∷ event (what.OnceCalled 0) ∷ [])
+called_while_it_runs = refl
+
+called_once_it_has_returned : OnlyRefuses Controls (event (what.OnceCalled 0) ∷ event (what.OnceDone 0) ∷ event (what.OnceCalled 0) ∷ [])
+called_once_it_has_returned = refl
+
+-- it returns in another thread, after its thread began to end, and twice
+returned_in_another_thread : OnlyRefuses Controls (other (what.OnceDone 0) ∷ event (what.OnceCalled 0) ∷ event (what.Created 2 false) ∷ [])
+returned_in_another_thread = refl
+
+returned_after_it_was_given_up : OnlyRefuses Controls (event (what.OnceDone 0) ∷ event (what.EndingExit 5) ∷ event (what.OnceCalled 0) ∷ [])
+returned_after_it_was_given_up = refl
+
+returned_twice : OnlyRefuses Controls (event (what.OnceDone 0) ∷ event (what.OnceDone 0) ∷ event (what.OnceCalled 0) ∷ [])
+returned_twice = refl
 
 -- a thread is created with the id of the initial thread
 created_again : OnlyRefuses Slots (event (what.Created 1 false) ∷ [])
@@ -267,5 +288,5 @@ reaped_twice = refl
 abbrev made_too_late : List Event
 made_too_late = replica (what.EndedWith 0) ∷ event (what.Forked 2) ∷ replica (what.EndingExit 0) ∷ replica (what.Pushed 1 10) ∷ []
 
-made_too_late_is_refused : map (keeps made_too_late) laws ≡ true ∷ false ∷ replicate 7 true ++ false ∷ []
+made_too_late_is_refused : map (keeps made_too_late) laws ≡ true ∷ false ∷ replicate 8 true ++ false ∷ []
 made_too_late_is_refused = refl

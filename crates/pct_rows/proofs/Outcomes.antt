@@ -43,6 +43,7 @@ smallest_declared kind.Global = refl
 smallest_declared kind.Mutex = refl
 smallest_declared kind.Cond = refl
 smallest_declared kind.Sem = refl
+smallest_declared kind.Once = refl
 smallest_declared kind.Function = refl
 
 smallest_are_contents : AreContents smallest_lines (contents_of smallest)
@@ -88,6 +89,7 @@ cleanup_declared kind.Global = refl
 cleanup_declared kind.Mutex = refl
 cleanup_declared kind.Cond = refl
 cleanup_declared kind.Sem = refl
+cleanup_declared kind.Once = refl
 cleanup_declared kind.Function = refl
 
 cleanup_are_contents : AreContents cleanup_lines (contents_of cleanup)

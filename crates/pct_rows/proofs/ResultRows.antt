@@ -4,6 +4,7 @@ use Rattle.pct_names.proofs.Names.{◌<◌, [], and_parts, ap, ap₂, arith, Boo
 use Rattle.pct_names.proofs.Names.{is_static, IsTrue, List, list_all, nat_eq, nat_lt, new_frame, new_shared, new_thread, None, none-some}
 use Rattle.pct_names.proofs.Names.{Option, option_map, Process, refl, same_Some, Script, SemDecl, slice_index, Some, Status, Stmt, suc, sym}
 use Rattle.pct_names.proofs.Names.{Thread, true, What, zero, ℕ, ◌∙◌, ◌∷◌, ◌≡◌}
+use Rattle.pct_names.proofs.Names.{Asynchronous, Deferred, map}
 use Rattle.std.proofs.Common.{ne_eqb}
 use Rattle.std.proofs.lemmas.Bool.{ltb-true, true≢false}
 use Rattle.pct_model.specs.declared.event.Caller.TheVariants as caller
@@ -16,7 +17,7 @@ use Rattle.pct_model.specs.declared.state.Status.TheVariants as status
 use Rattle.pct_model.specs.declared.statement.Dest.TheVariants as destination
 use Rattle.pct_model.specs.declared.statement.Operand.TheVariants as operand
 use Rattle.pct_model.specs.declared.statement.Stmt.TheVariants as statement
-use Rattle.pct_laws.specs.ResultLaw.{Store, after_stores, local_on_top, stored, StoresResults}
+use Rattle.pct_laws.specs.ResultLaw.{Store, after_stores, local_on_top, number_of_mode, number_of_state, stored, StoresResults}
 use Rattle.pct_laws.specs.ThreadSteps.{ThreadStep}
 use Rattle.pct_rows.proofs.ExampleScripts.{forking}
 use Rattle.pct_rows.proofs.OnLiterals.{checks_on_literals, runs_on_literals}
@@ -43,12 +44,12 @@ statements =
 abbrev semaphores : List SemDecl
 semaphores = record { name = codes "s"; count = 0 } ∷ []
 
-passes : IsTrue (is_static (record { globals = codes "g" ∷ []; mutexes = codes "m" ∷ []; conds = codes "c" ∷ []; sems = semaphores; funcs = record { name = codes "main"; locals = codes "x" ∷ codes "y" ∷ []; body = statements } ∷ [] }))
+passes : IsTrue (is_static (record { globals = codes "g" ∷ []; mutexes = codes "m" ∷ []; conds = codes "c" ∷ []; sems = semaphores; onces = []; funcs = record { name = codes "main"; locals = codes "x" ∷ codes "y" ∷ []; body = statements } ∷ [] }))
 unfolding checks_on_literals
 passes = refl
 
 abbrev script : Script
-script = record { globals = codes "g" ∷ []; mutexes = codes "m" ∷ []; conds = codes "c" ∷ []; sems = semaphores; funcs = record { name = codes "main"; locals = codes "x" ∷ codes "y" ∷ []; body = statements } ∷ []; passes_checks = passes }
+script = record { globals = codes "g" ∷ []; mutexes = codes "m" ∷ []; conds = codes "c" ∷ []; sems = semaphores; onces = []; funcs = record { name = codes "main"; locals = codes "x" ∷ codes "y" ∷ []; body = statements } ∷ []; passes_checks = passes }
 
 -- ---- steps
 
@@ -207,6 +208,12 @@ and_not_the_new_one law = let n : ◌≡◌ {A = ℕ} 0 1 = no_local (law.locals
 it_is_stored : StoresResults script (step 4 status.Running (what.StateSet true ∷ []) 7 7 7) → ⊥
 unfolding runs_on_literals
 it_is_stored law = let n : ◌≡◌ {A = ℕ} 7 1 = no_local (law.locals refl 0) in omega (arith, n)
+
+states_have_numbers : map number_of_state (state.Enable ∷ state.Disable ∷ []) ≡ 0 ∷ 1 ∷ []
+states_have_numbers = refl
+
+types_have_numbers : map number_of_mode (Deferred ∷ Asynchronous ∷ []) ≡ 0 ∷ 1 ∷ []
+types_have_numbers = refl
 
 -- ---- waitpid
 

@@ -8,6 +8,7 @@ use Rattle.pct_model.specs.declared.state.FrameKind.TheVariants as kind
 use Rattle.pct_model.specs.declared.state.Status.TheVariants as status
 use Rattle.pct_model.specs.declared.statement.Operand.TheVariants as operand
 use Rattle.pct_model.specs.declared.statement.Stmt.TheVariants as statement
+use Rattle.pct_model.specs.declared.stop.Why.TheVariants as why
 use Rattle.pct_laws.specs.Ends.{count_due, each_may_begin, is_due, KeepsValue, KeepsValues}
 use Rattle.pct_laws.specs.ThreadSteps.{ThreadStep}
 use Rattle.pct_rows.proofs.ExampleScripts.{smallest}
@@ -238,6 +239,16 @@ where_others_are_gone = refl
 with_0 : keeps (step_beside ended without_values (end ∷ what.ExitBegun 5 ∷ [])) ≡ false
 with_0 = refl
 
+-- a running thread may exit the process, and one that is ending may not before its end
+a_running_thread_exits : keeps (step (record with_handler { status = status.Running }) (what.ExitBegun 5 ∷ [])) ≡ true
+a_running_thread_exits = refl
+
+no_ending_thread_does : keeps (step with_handler (what.ExitBegun 5 ∷ [])) ≡ false
+no_ending_thread_does = refl
+
+nor_with_no_handler_left : keeps (step_beside ended without_values (what.ExitBegun 0 ∷ [])) ≡ false
+nor_with_no_handler_left = refl
+
 -- each event of a step counts, not the first one alone
 no_event_is_passed_over : keeps (step with_values (end ∷ values_left 3)) ≡ false
 no_event_is_passed_over = refl
@@ -257,12 +268,12 @@ statements =
 abbrev funcs : List Func
 funcs = record { name = codes "main"; locals = codes "x" ∷ []; body = statements } ∷ []
 
-passes : IsTrue (is_static (record { globals = []; mutexes = []; conds = []; sems = []; funcs = funcs }))
+passes : IsTrue (is_static (record { globals = []; mutexes = []; conds = []; sems = []; onces = []; funcs = funcs }))
 unfolding checks_on_literals
 passes = refl
 
 abbrev script : Script
-script = record { globals = []; mutexes = []; conds = []; sems = []; funcs = funcs; passes_checks = passes }
+script = record { globals = []; mutexes = []; conds = []; sems = []; onces = []; funcs = funcs; passes_checks = passes }
 
 -- a running thread at a statement of `main`, with these values
 abbrev at : ℕ → List ℕ → Thread
@@ -305,6 +316,13 @@ no_value_changes_at_emit law = let n : ◌≡◌ {A = ℕ} 8 7 = (law 0).value r
 nor_that_of_another_key_at_pthread_setspecific : KeepsValues script (step_to (another 2) (at 1 (7 ∷ 7 ∷ [])) (at 2 (8 ∷ 8 ∷ [])) []) → ⊥
 unfolding runs_on_literals
 nor_that_of_another_key_at_pthread_setspecific law = let n : ◌≡◌ {A = ℕ} 8 7 = (law 1).value refl refl in omega arith
+
+-- nor there, as the thread acts upon a request, or the call is a stop
+none_changes_as_the_thread_acts : KeepsValues script (step_to (another 2) (at 1 (7 ∷ 7 ∷ [])) (record (at 1 (8 ∷ 7 ∷ [])) { status = status.Ending; frames = [] }) (what.EndingCanceled ∷ [])) → ⊥
+none_changes_as_the_thread_acts law = let n : ◌≡◌ {A = ℕ} 8 7 = (law 0).value refl refl in omega arith
+
+none_changes_at_a_stop : KeepsValues script (step_to (another 2) (at 1 (7 ∷ 7 ∷ [])) (at 1 (8 ∷ 7 ∷ [])) (what.Stopped why.KeyId ∷ [])) → ⊥
+none_changes_at_a_stop law = let n : ◌≡◌ {A = ℕ} 8 7 = (law 0).value refl refl in omega arith
 
 nor_as_a_key_is_deleted : KeepsValues script (step_to (another 2) (at 2 (7 ∷ 7 ∷ [])) (at 3 (0 ∷ 0 ∷ [])) (what.KeyGone 1 ∷ [])) → ⊥
 unfolding runs_on_literals

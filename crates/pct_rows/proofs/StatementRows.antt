@@ -24,12 +24,12 @@ use Rattle.pct_rows.proofs.OnLiterals.{checks_on_literals, runs_on_literals}
 abbrev statements : List Stmt
 statements = statement.Join (operand.Num 3) destination.Drop ∷ statement.Emit (operand.Num 5) ∷ statement.End ∷ []
 
-passes : IsTrue (is_static (record { globals = []; mutexes = []; conds = []; sems = []; funcs = record { name = codes "main"; locals = codes "x" ∷ []; body = statements } ∷ [] }))
+passes : IsTrue (is_static (record { globals = []; mutexes = []; conds = []; sems = []; onces = []; funcs = record { name = codes "main"; locals = codes "x" ∷ []; body = statements } ∷ [] }))
 unfolding checks_on_literals
 passes = refl
 
 abbrev script : Script
-script = record { globals = []; mutexes = []; conds = []; sems = []; funcs = record { name = codes "main"; locals = codes "x" ∷ []; body = statements } ∷ []; passes_checks = passes }
+script = record { globals = []; mutexes = []; conds = []; sems = []; onces = []; funcs = record { name = codes "main"; locals = codes "x" ∷ []; body = statements } ∷ []; passes_checks = passes }
 
 -- ---- a state
 
@@ -126,6 +126,18 @@ from_main_it_exits_the_process = refl
 and_does_not_end_the_thread : returns kind.Main (what.EndingExit 7 ∷ []) ≡ false
 unfolding runs_on_literals
 and_does_not_end_the_thread = refl
+
+from_an_init_routine_it_has_the_event_of_its_control : returns (kind.OnceFn 2) (what.OnceDone 2 ∷ []) ≡ true
+from_an_init_routine_it_has_the_event_of_its_control = refl
+
+and_of_no_other_control : returns (kind.OnceFn 2) (what.OnceDone 0 ∷ []) ≡ false
+and_of_no_other_control = refl
+
+it_has_it : returns (kind.OnceFn 2) [] ≡ false
+it_has_it = refl
+
+and_another_return_has_not : says (statement.Return x) (what.OnceDone 2 ∷ []) ≡ false
+and_another_return_has_not = refl
 
 -- the `end` of `main` is at index 2
 abbrev closes : ℕ → List What → Bool
@@ -373,6 +385,26 @@ posts = refl
 
 no_other_semaphore_is_posted : says (statement.SemPost 2) (what.Posted 0 ∷ []) ≡ false
 no_other_semaphore_is_posted = refl
+
+-- ---- once controls
+
+abbrev calls_once : Stmt
+calls_once = statement.CallOnce 2 0
+
+calls_the_routine : says calls_once (what.OnceCalled 2 ∷ []) ≡ true
+calls_the_routine = refl
+
+or_returns_without_an_event : says calls_once [] ≡ true
+or_returns_without_an_event = refl
+
+no_routine_of_another_control_is_called : says calls_once (what.OnceCalled 0 ∷ []) ≡ false
+no_routine_of_another_control_is_called = refl
+
+a_routine_does_not_return_at_once : says calls_once (what.OnceCalled 2 ∷ what.OnceDone 2 ∷ []) ≡ false
+a_routine_does_not_return_at_once = refl
+
+nor_without_its_call : says calls_once (what.OnceDone 2 ∷ []) ≡ false
+nor_without_its_call = refl
 
 -- ---- processes
 

@@ -13,7 +13,7 @@ function name locals body = record { name = name; locals = locals; body = body }
 
 -- a script with these globals, and `main` with these statements and its closing `end`
 abbrev with_globals : List (List ℕ) → List Stmt → Contents
-with_globals globals body = record { globals = globals; mutexes = []; conds = []; sems = []; funcs = function (codes "main") (codes "x" ∷ []) (body ++ statement.End ∷ []) ∷ [] }
+with_globals globals body = record { globals = globals; mutexes = []; conds = []; sems = []; onces = []; funcs = function (codes "main") (codes "x" ∷ []) (body ++ statement.End ∷ []) ∷ [] }
 
 abbrev is_static_main : List Stmt → Bool
 is_static_main body = is_static (with_globals (codes "g" ∷ []) body)
@@ -21,7 +21,7 @@ is_static_main body = is_static (with_globals (codes "g" ∷ []) body)
 -- ---- contents that no text spells
 
 -- indexes are within range, and numbers have 32 bits
-positions : (map is_static_main ((statement.Emit (operand.Global 0) ∷ []) ∷ (statement.Emit (operand.Num 4294967295) ∷ []) ∷ []) ≡ true ∷ true ∷ []) × (map is_static_main ((statement.Emit (operand.Global 1) ∷ []) ∷ (statement.Emit (operand.Local 1) ∷ []) ∷ (statement.Emit (operand.Num 4294967296) ∷ []) ∷ (statement.Do 1 (operand.Num 0) ∷ []) ∷ (statement.Lock 0 ∷ []) ∷ []) ≡ replicate 5 false)
+positions : (map is_static_main ((statement.Emit (operand.Global 0) ∷ []) ∷ (statement.Emit (operand.Num 4294967295) ∷ []) ∷ []) ≡ true ∷ true ∷ []) × (map is_static_main ((statement.Emit (operand.Global 1) ∷ []) ∷ (statement.Emit (operand.Local 1) ∷ []) ∷ (statement.Emit (operand.Num 4294967296) ∷ []) ∷ (statement.Do 1 (operand.Num 0) ∷ []) ∷ (statement.Lock 0 ∷ []) ∷ (statement.CallOnce 0 0 ∷ []) ∷ []) ≡ replicate 6 false)
 unfolding checks_on_literals
 positions = (refl, refl)
 
@@ -36,7 +36,7 @@ unfolding checks_on_literals
 hidden = refl
 
 -- a function has a parameter, and its last statement is its closing `end`
-functions : map (λ f. is_static (record { globals = []; mutexes = []; conds = []; sems = []; funcs = f ∷ [] })) (function (codes "main") (codes "x" ∷ []) (statement.End ∷ []) ∷ function (codes "main") [] (statement.End ∷ []) ∷ function (codes "main") (codes "x" ∷ []) [] ∷ function (codes "main") (codes "x" ∷ []) (statement.End ∷ statement.Nop ∷ []) ∷ []) ≡ true ∷ false ∷ false ∷ false ∷ []
+functions : map (λ f. is_static (record { globals = []; mutexes = []; conds = []; sems = []; onces = []; funcs = f ∷ [] })) (function (codes "main") (codes "x" ∷ []) (statement.End ∷ []) ∷ function (codes "main") [] (statement.End ∷ []) ∷ function (codes "main") (codes "x" ∷ []) [] ∷ function (codes "main") (codes "x" ∷ []) (statement.End ∷ statement.Nop ∷ []) ∷ []) ≡ true ∷ false ∷ false ∷ false ∷ []
 unfolding checks_on_literals
 functions = refl
 

@@ -23,12 +23,12 @@ statements =
     ∷ statement.End
     ∷ []
 
-passes : IsTrue (is_static (record { globals = []; mutexes = []; conds = []; sems = []; funcs = record { name = codes "main"; locals = codes "x" ∷ []; body = statements } ∷ [] }))
+passes : IsTrue (is_static (record { globals = []; mutexes = []; conds = []; sems = []; onces = []; funcs = record { name = codes "main"; locals = codes "x" ∷ []; body = statements } ∷ [] }))
 unfolding checks_on_literals
 passes = refl
 
 abbrev script : Script
-script = record { globals = []; mutexes = []; conds = []; sems = []; funcs = record { name = codes "main"; locals = codes "x" ∷ []; body = statements } ∷ []; passes_checks = passes }
+script = record { globals = []; mutexes = []; conds = []; sems = []; onces = []; funcs = record { name = codes "main"; locals = codes "x" ∷ []; body = statements } ∷ []; passes_checks = passes }
 
 -- ---- steps
 

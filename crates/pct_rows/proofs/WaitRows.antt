@@ -1,14 +1,16 @@
 -- The choices and transitions of mutexes, condition variables and semaphores, by status: each cause, with the mutex free and owned, with a
--- request and without; and states that no run reaches.
-use Rattle.pct_names.proofs.Names.{[], acts, acts_on_request, after_transition, Alt, Asynchronous, broadcasts, Cause, choices_at}
-use Rattle.pct_names.proofs.Names.{choices_of, Disable, ends_sem_wait, environment_of, expires, flat_map, Format, goes_on, List, map}
-use Rattle.pct_names.proofs.Names.{new_shared, no_change, NextStatement, None, posts, reacquires, refl, SharedState, Some, StatementIn}
-use Rattle.pct_names.proofs.Names.{Status, Thread, Transition, true, ℕ, ◌∷◌, ◌≡◌}
+-- request and without; those of once controls, by the state of the control; and states that no run reaches.
+use Rattle.pct_names.proofs.Names.{[], acts, acts_on_request, after_transition, Alt, Asynchronous, broadcasts, Busy, calls_once, Cause}
+use Rattle.pct_names.proofs.Names.{choices_at, choices_of, Disable, ends_by_exit, ends_sem_wait, environment_of, exits, expires, flat_map}
+use Rattle.pct_names.proofs.Names.{Format, Fresh, goes_on, leaves_routine, List, map, new_shared, NextStatement, no_change, None, OnceState}
+use Rattle.pct_names.proofs.Names.{posts, reacquires, refl, replicate, SharedState, Some, StatementIn, Status, Thread, Transition, true}
+use Rattle.pct_names.proofs.Names.{ℕ, ◌∷◌, ◌≡◌}
 use Rattle.pct_model.specs.declared.event.Caller.TheVariants as caller
 use Rattle.pct_model.specs.declared.event.What.TheVariants as what
 use Rattle.pct_model.specs.declared.schedule.Alt.TheVariants as alt
 use Rattle.pct_model.specs.declared.schedule.Format.TheVariants as format
 use Rattle.pct_model.specs.declared.state.Cause.TheVariants as cause
+use Rattle.pct_model.specs.declared.state.OnceState.TheVariants.{Done}
 use Rattle.pct_model.specs.declared.state.Status.TheVariants as status
 use Rattle.pct_model.specs.declared.statement.Dest.TheVariants as destination
 use Rattle.pct_model.specs.declared.statement.Stmt.TheVariants as statement
@@ -129,6 +131,20 @@ asynchronous_at_a_lock : map (λ t. lock_choices (record t { mode = Asynchronous
 unfolding runs_on_literals
 asynchronous_at_a_lock = refl
 
+-- the choices of a thread at pthread_once of a control that is fresh, busy with thread 1, busy with thread 2, and done
+abbrev once_choices : Thread → List (List Alt)
+once_choices t = map (λ state. choices_before (record (shared 0) { onces = state ∷ [] }) t nobody (statement.CallOnce 0 0)) (Fresh ∷ Busy 1 ∷ Busy 2 ∷ Done ∷ [])
+
+-- the thread itself is no exception, and the call is no cancellation point: with a request, and with none
+at_a_once : map once_choices (ready 1 ∷ record (ready 1) { pending = true } ∷ []) ≡ replicate 2 ((alt.Go ∷ []) ∷ [] ∷ [] ∷ (alt.Go ∷ []) ∷ [])
+unfolding runs_on_literals
+at_a_once = refl
+
+-- with asynchronous cancelability `go` is the stop
+asynchronous_at_a_once : once_choices (record (ready 1) { mode = Asynchronous }) ≡ replicate 4 (alt.Go ∷ [])
+unfolding runs_on_literals
+asynchronous_at_a_once = refl
+
 -- a signal unblocks one of the threads that wait on its condition variable
 at_a_signal : map (λ c. choices_before (shared 0) (ready 1) (environment_of config (state_of []) (process 1 waiters) 1) (statement.Signal c)) (1 ∷ 2 ∷ 3 ∷ []) ≡ (alt.Pick 6 ∷ alt.Pick 3 ∷ []) ∷ (alt.Pick 4 ∷ []) ∷ (alt.Go ∷ []) ∷ []
 unfolding runs_on_literals
@@ -186,3 +202,13 @@ after_a_broadcast = refl
 the_greatest_count : posts 7 0 4294967295 ≡ record (goes_on 7 (what.Posted 0 ∷ [])) { shared = Some (shared_action.SetCount 0 0) }
 unfolding runs_on_literals
 the_greatest_count = refl
+
+-- the once controls of two processes after a transition of thread 1 of the first
+abbrev onces_after_step : Transition → List (List OnceState)
+onces_after_step o = map (λ p. p.shared.onces) (after_transition 1 1 o (state_of (map (λ pid. record (process pid (ready 1 ∷ [])) { shared = record (shared 0) { onces = Fresh ∷ Busy 1 ∷ Busy 2 ∷ Done ∷ [] } }) (1 ∷ 2 ∷ [])))).processes
+
+-- a call makes its control busy with the thread, and a return of the routine makes it done; as the thread begins to end, by a request or by
+-- pthread_exit, its controls are fresh; and an exit leaves them, as the call of one that is done does
+once_controls : map onces_after_step (calls_once 1 0 0 1 Fresh ∷ leaves_routine 1 ∷ acts_on_request 0 status.Running ∷ ends_by_exit 5 ∷ exits 5 ∷ calls_once 1 3 0 1 Done ∷ []) ≡ map (λ onces. onces ∷ (Fresh ∷ Busy 1 ∷ Busy 2 ∷ Done ∷ []) ∷ []) ((Busy 1 ∷ Busy 1 ∷ Busy 2 ∷ Done ∷ []) ∷ (Fresh ∷ Done ∷ Busy 2 ∷ Done ∷ []) ∷ (Fresh ∷ Fresh ∷ Busy 2 ∷ Done ∷ []) ∷ (Fresh ∷ Fresh ∷ Busy 2 ∷ Done ∷ []) ∷ (Fresh ∷ Busy 1 ∷ Busy 2 ∷ Done ∷ []) ∷ (Fresh ∷ Busy 1 ∷ Busy 2 ∷ Done ∷ []) ∷ [])
+unfolding runs_on_literals
+once_controls = refl

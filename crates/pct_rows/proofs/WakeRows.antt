@@ -27,7 +27,7 @@ process threads = record {
   parent = 0;
   ended = None;
   threads = threads;
-  shared = record { globals = []; owners = []; counts = []; keys = []; fork_handlers = []; exit_functions = []; exit_value = None; restricted = false };
+  shared = record { globals = []; owners = []; counts = []; onces = []; keys = []; fork_handlers = []; exit_functions = []; exit_value = None; restricted = false };
 }
 
 -- the status of a thread that waits on condition variable c with mutex m, and of one that left this wait

@@ -44,10 +44,10 @@ count_both : (one other : List (List (List ℕ))) → count (one ++ other) ≡ c
 count_both [] other = omega arith
 count_both (words ∷ one) other = omega (arith, count_both one other)
 
--- lines of at most 6 words
-count_few : {X : Type 0} (line : X → List (List ℕ)) → ((x : X) → length (line x) ≤ 6) → (xs : List X) → count (map line xs) ≤ 7 * length xs
-count_few line few [] = omega arith
-count_few line few (x ∷ xs) = omega (arith, few x, count_few line few xs)
+-- lines of at most n words
+count_few : {X : Type 0} (n : ℕ) (line : X → List (List ℕ)) → ((x : X) → length (line x) ≤ n) → (xs : List X) → count (map line xs) ≤ (n + 1) * length xs
+count_few n line few [] = omega arith
+count_few n line few (x ∷ xs) = omega (arith, few x, count_few n line few xs)
 
 few_texts : (c : Contents) (locals : List (List ℕ)) (argument_kinds : List ArgumentKind) (arguments : List Argument) → length (argument_texts c locals argument_kinds arguments) ≤ length arguments
 unfolding argument_texts
@@ -74,7 +74,7 @@ count_functions c (f ∷ fs) few =
     let lines : Func → List (List (List ℕ)) = function_lines c in
     let whole : count (flat_map lines (f ∷ fs)) ≡ count (lines f) + count (flat_map lines fs) = ap count (flat_map-cons lines f fs) ∙ count_both (lines f) (flat_map lines fs) in
     let total : statement_lines (f ∷ fs) ≡ length f.body + statement_lines fs = sum_by-cons (λ (g : Func). length g.body) f fs in
-    omega (arith, whole, total, leb-true (length f.locals) 8 short.0, count_few (statement_words c f.locals) (few_words c f.locals) f.body, count_functions c fs short.1)
+    omega (arith, whole, total, leb-true (length f.locals) 8 short.0, count_few 6 (statement_words c f.locals) (few_words c f.locals) f.body, count_functions c fs short.1)
 
 -- the canonical text of a script has at most 500,000 bytes
 pub canon_size : (script : Script) → length (canon script) ≤ 500000
@@ -88,8 +88,12 @@ canon_size script =
     let mutexes = map (name_line kind.Mutex) c.mutexes in
     let conds = map (name_line kind.Cond) c.conds in
     let sems = map sem_line c.sems in
+    let onces = map (name_line kind.Once) c.onces in
     let few_globals : length c.globals ≤ 32 = limits.kinds kind.Global in
     let few_mutexes : length c.mutexes ≤ 32 = limits.kinds kind.Mutex in
     let few_conds : length c.conds ≤ 32 = limits.kinds kind.Cond in
     let few_sems : length (map (λ (s : SemDecl). s.name) c.sems) ≤ 32 = limits.kinds kind.Sem in
-    omega (arith, lines_size (script_lines c) (lines_of_script script).1.are, count_both (globals ++ mutexes ++ conds ++ sems) (flat_map (function_lines c) c.funcs), count_both (globals ++ mutexes ++ conds) sems, count_both (globals ++ mutexes) conds, count_both globals mutexes, few_globals, few_mutexes, few_conds, few_sems, length-map c.sems (λ (s : SemDecl). s.name), few_functions c script.passes_checks, limits.statements, count_few (name_line kind.Global) (λ name. omega arith) c.globals, count_few (name_line kind.Mutex) (λ name. omega arith) c.mutexes, count_few (name_line kind.Cond) (λ name. omega arith) c.conds, count_few sem_line (λ s. omega arith) c.sems, count_functions c c.funcs limits.locals)
+    let few_onces : length c.onces ≤ 32 = limits.kinds kind.Once in
+    let declared : count (globals ++ mutexes ++ conds ++ sems ++ onces) ≡ count globals + count mutexes + count conds + count sems + count onces =
+    omega (arith, count_both (globals ++ mutexes ++ conds ++ sems) onces, count_both (globals ++ mutexes ++ conds) sems, count_both (globals ++ mutexes) conds, count_both globals mutexes) in
+    omega (arith, lines_size (script_lines c) (lines_of_script script).1.are, count_both (globals ++ mutexes ++ conds ++ sems ++ onces) (flat_map (function_lines c) c.funcs), declared, few_globals, few_mutexes, few_conds, few_sems, few_onces, length-map c.sems (λ (s : SemDecl). s.name), few_functions c script.passes_checks, limits.statements, count_few 2 (name_line kind.Global) (λ name. omega arith) c.globals, count_few 2 (name_line kind.Mutex) (λ name. omega arith) c.mutexes, count_few 2 (name_line kind.Cond) (λ name. omega arith) c.conds, count_few 3 sem_line (λ s. omega arith) c.sems, count_few 2 (name_line kind.Once) (λ name. omega arith) c.onces, count_functions c c.funcs limits.locals)

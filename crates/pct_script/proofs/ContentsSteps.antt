@@ -1,5 +1,5 @@
 -- The contents of a script from its resolved functions.
-use Rattle.pct_names.proofs.Names.{ap, Contents, Func, functions_in, Line, List, names_declared, Option, option_map, SemDecl, Some, sym}
+use Rattle.pct_names.proofs.Names.{ap, Func, functions_in, Line, List, names_declared, refl, SemDecl, Some, sym}
 use Rattle.pct_names.proofs.Names.{SymbolKind, unknown_name, ℕ, ◌∙◌, ◌≡◌}
 use Rattle.std.proofs.Math.Path.{fun_ext}
 use Rattle.pct_model.specs.declared.line_kind.SymbolKind.TheVariants as kind
@@ -13,14 +13,10 @@ module _ (names : SymbolKind → List (List ℕ)) (lines : List Line) (each : (k
   unknown_is = ap (λ (n : SymbolKind → List (List ℕ)). unknown_in_sections n (functions_in lines)) (fun_ext each)
 
   -- the contents of a script, if its functions resolve
-  pub contents_are_read : (funcs : List Func) (globals mutexes conds : List (List ℕ)) (sems : List SemDecl) → resolve_functions names (functions_in lines) ≡ Some funcs
-      → globals ≡ names kind.Global → mutexes ≡ names kind.Mutex → conds ≡ names kind.Cond → sems ≡ sems_in lines
-      → resolve_contents lines ≡ Some (record { globals = globals; mutexes = mutexes; conds = conds; sems = sems; funcs = funcs })
+  pub contents_are_read : (funcs : List Func) (globals mutexes conds onces : List (List ℕ)) (sems : List SemDecl) → resolve_functions names (functions_in lines) ≡ Some funcs
+      → globals ≡ names kind.Global → mutexes ≡ names kind.Mutex → conds ≡ names kind.Cond → onces ≡ names kind.Once → sems ≡ sems_in lines
+      → resolve_contents lines ≡ Some (record { globals = globals; mutexes = mutexes; conds = conds; sems = sems; onces = onces; funcs = funcs })
   unfolding resolve_contents
-  contents_are_read funcs globals mutexes conds sems read g m d s =
-      ap (λ (o : Option (List Func)). option_map {U = Contents} (λ fs. record { globals = names_declared lines kind.Global; mutexes = names_declared lines kind.Mutex; conds = names_declared lines kind.Cond; sems = sems_in lines; funcs = fs }) o)
-      (sym (ap (λ (n : SymbolKind → List (List ℕ)). resolve_functions n (functions_in lines)) (fun_ext each)) ∙ read)
-      ∙ ap (λ gs. Some (record { globals = gs; mutexes = names_declared lines kind.Mutex; conds = names_declared lines kind.Cond; sems = sems_in lines; funcs = funcs })) (sym (g ∙ each kind.Global))
-      ∙ ap (λ ms. Some (record { globals = globals; mutexes = ms; conds = names_declared lines kind.Cond; sems = sems_in lines; funcs = funcs })) (sym (m ∙ each kind.Mutex))
-      ∙ ap (λ cs. Some (record { globals = globals; mutexes = mutexes; conds = cs; sems = sems_in lines; funcs = funcs })) (sym (d ∙ each kind.Cond))
-      ∙ ap (λ ss. Some (record { globals = globals; mutexes = mutexes; conds = conds; sems = ss; funcs = funcs })) (sym s)
+  contents_are_read funcs globals mutexes conds onces sems read g m d o s =
+      let found = sym (ap (λ (n : SymbolKind → List (List ℕ)). resolve_functions n (functions_in lines)) (fun_ext each)) ∙ read in
+      rw (g ∙ each kind.Global, m ∙ each kind.Mutex, d ∙ each kind.Cond, o ∙ each kind.Once, s, found) refl

@@ -40,6 +40,7 @@ counts_of lines = record {
   mutexes = count_by (declares kind.Mutex) lines;
   conds = count_by (declares kind.Cond) lines;
   sems = count_by (declares kind.Sem) lines;
+  onces = count_by (declares kind.Once) lines;
   functions = count_by (declares kind.Function) lines;
   statements = count_by is_statement lines;
 }
@@ -54,6 +55,7 @@ counted c r = record {
   mutexes = one_if (declares_by kind.Mutex r) c.mutexes;
   conds = one_if (declares_by kind.Cond r) c.conds;
   sems = one_if (declares_by kind.Sem r) c.sems;
+  onces = one_if (declares_by kind.Once r) c.onces;
   functions = one_if (declares_by kind.Function r) c.functions;
   statements = one_if (not (is_declaration r)) c.statements;
 }
@@ -62,7 +64,7 @@ counted c r = record {
 abbrev is_past : Counts → Role → Bool → Bool
 is_past c r many =
     declares_by kind.Global r && nat_le 32 c.globals || declares_by kind.Mutex r && nat_le 32 c.mutexes || declares_by kind.Cond r && nat_le 32 c.conds
-    || declares_by kind.Sem r && nat_le 32 c.sems || declares_by kind.Function r && nat_le 64 c.functions
+    || declares_by kind.Sem r && nat_le 32 c.sems || declares_by kind.Once r && nat_le 32 c.onces || declares_by kind.Function r && nat_le 64 c.functions
     || not (is_declaration r) && nat_le 2000 c.statements || declares_by kind.Function r && many
 
 one_is : (t : Bool) (n : ℕ) → cond t 1 0 + n ≡ one_if t n
@@ -72,14 +74,16 @@ one_is false n = omega arith
 one_counted : (test : ParsedLine → Bool) (line : ParsedLine) (lines : List ParsedLine) → count_by test (line ∷ lines) ≡ one_if (test line) (count_by test lines)
 one_counted test line lines = sum_by-cons (λ l. cond (test l) 1 0) line lines ∙ one_is (test line) (count_by test lines)
 
-same_counts : (a b c d e f g h i j k m : ℕ) → a ≡ g → b ≡ h → c ≡ i → d ≡ j → e ≡ k → f ≡ m
-    → ◌≡◌ {A = Counts} (record { globals = a; mutexes = b; conds = c; sems = d; functions = e; statements = f }) (record { globals = g; mutexes = h; conds = i; sems = j; functions = k; statements = m })
-same_counts a b c d e f g h i j k m p q r s t u = cc
+same_counts : {a b c d e f g h i j k l m n : ℕ} → a ≡ h → b ≡ i → c ≡ j → d ≡ k → e ≡ l → f ≡ m → g ≡ n
+    → ◌≡◌ {A = Counts} (record { globals = a; mutexes = b; conds = c; sems = d; onces = e; functions = f; statements = g })
+    (record { globals = h; mutexes = i; conds = j; sems = k; onces = l; functions = m; statements = n })
+same_counts o p q r s t u = cc
 
 counts_more : (line : ParsedLine) (lines : List ParsedLine) → counts_of (line ∷ lines) ≡ counted (counts_of lines) (role_in line)
 counts_more line lines =
-    same_counts _ _ _ _ _ _ _ _ _ _ _ _ (one_counted (declares kind.Global) line lines) (one_counted (declares kind.Mutex) line lines) (one_counted (declares kind.Cond) line lines)
-    (one_counted (declares kind.Sem) line lines) (one_counted (declares kind.Function) line lines) (one_counted is_statement line lines)
+    same_counts (one_counted (declares kind.Global) line lines) (one_counted (declares kind.Mutex) line lines) (one_counted (declares kind.Cond) line lines)
+    (one_counted (declares kind.Sem) line lines) (one_counted (declares kind.Once) line lines) (one_counted (declares kind.Function) line lines)
+    (one_counted is_statement line lines)
 
 -- ---- a line
 
@@ -92,10 +96,11 @@ by_locals f n true true = refl
 by_locals f n _ _ = refl
 
 role_counted : (c : Counts) (r : Role) (many : Bool) → cond (declares_by kind.Function r && many) None (with_role c r) ≡ cond (is_past c r many) None (Some (counted c r))
-role_counted c (role.Declares kind.Global) many = by_count (λ t. t || false || false || false || false || false || false) (λ n. record c { globals = n }) c.globals (nat_le 32 c.globals) refl refl
-role_counted c (role.Declares kind.Mutex) many = by_count (λ t. t || false || false || false || false || false) (λ n. record c { mutexes = n }) c.mutexes (nat_le 32 c.mutexes) refl refl
-role_counted c (role.Declares kind.Cond) many = by_count (λ t. t || false || false || false || false) (λ n. record c { conds = n }) c.conds (nat_le 32 c.conds) refl refl
-role_counted c (role.Declares kind.Sem) many = by_count (λ t. t || false || false || false) (λ n. record c { sems = n }) c.sems (nat_le 32 c.sems) refl refl
+role_counted c (role.Declares kind.Global) many = by_count (λ t. t || false || false || false || false || false || false || false) (λ n. record c { globals = n }) c.globals (nat_le 32 c.globals) refl refl
+role_counted c (role.Declares kind.Mutex) many = by_count (λ t. t || false || false || false || false || false || false) (λ n. record c { mutexes = n }) c.mutexes (nat_le 32 c.mutexes) refl refl
+role_counted c (role.Declares kind.Cond) many = by_count (λ t. t || false || false || false || false || false) (λ n. record c { conds = n }) c.conds (nat_le 32 c.conds) refl refl
+role_counted c (role.Declares kind.Sem) many = by_count (λ t. t || false || false || false || false) (λ n. record c { sems = n }) c.sems (nat_le 32 c.sems) refl refl
+role_counted c (role.Declares kind.Once) many = by_count (λ t. t || false || false || false) (λ n. record c { onces = n }) c.onces (nat_le 32 c.onces) refl refl
 role_counted c (role.Declares kind.Function) many = by_locals (λ n. record c { functions = n }) c.functions (nat_le 64 c.functions) many
 role_counted c _ many = by_count (λ t. t || false) (λ n. record c { statements = n }) c.statements (nat_le 2000 c.statements) refl refl
 

@@ -13,7 +13,7 @@ use Rattle.pct_script.specs.declared.limits.Counts.{Counts}
 
 -- before the first line
 abbrev pub none_yet : Counts
-none_yet = record { globals = 0; mutexes = 0; conds = 0; sems = 0; functions = 0; statements = 0 }
+none_yet = record { globals = 0; mutexes = 0; conds = 0; sems = 0; onces = 0; functions = 0; statements = 0 }
 
 -- one more, if that is within the limit
 abbrev pub one_more : ℕ → ℕ → Option ℕ
@@ -25,6 +25,7 @@ with_declared c kind.Global = option_map (λ n. record c { globals = n }) (one_m
 with_declared c kind.Mutex = option_map (λ n. record c { mutexes = n }) (one_more c.mutexes 32)
 with_declared c kind.Cond = option_map (λ n. record c { conds = n }) (one_more c.conds 32)
 with_declared c kind.Sem = option_map (λ n. record c { sems = n }) (one_more c.sems 32)
+with_declared c kind.Once = option_map (λ n. record c { onces = n }) (one_more c.onces 32)
 with_declared c kind.Function = option_map (λ n. record c { functions = n }) (one_more c.functions 64)
 
 -- with one more statement

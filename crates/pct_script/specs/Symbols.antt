@@ -10,4 +10,5 @@ symbols_of t kind.Global = t.globals
 symbols_of t kind.Mutex = t.mutexes
 symbols_of t kind.Cond = t.conds
 symbols_of t kind.Sem = t.sems
+symbols_of t kind.Once = t.onces
 symbols_of t kind.Function = t.functions

@@ -167,6 +167,10 @@ pub(crate) fn decode(line_kind: LineKind, arguments: &[Argument]) -> Stmt
             sem: item(arguments, 1),
         },
         LineKind::SemPost => Stmt::SemPost(item(arguments, 0)),
+        LineKind::CallOnce => Stmt::CallOnce {
+            once: item(arguments, 0),
+            func: item(arguments, 1),
+        },
         LineKind::AtFork => Stmt::AtFork {
             result: dest(arguments, 0),
             prepare: optional(arguments, 1),

@@ -20,6 +20,7 @@ struct Counts {
     mutexes: usize,
     conds: usize,
     sems: usize,
+    onces: usize,
     functions: usize,
     statements: usize,
 }
@@ -60,6 +61,7 @@ impl Counts {
             mutexes: 0,
             conds: 0,
             sems: 0,
+            onces: 0,
             functions: 0,
             statements: 0,
         }
@@ -83,6 +85,10 @@ impl Counts {
             }),
             SymbolKind::Sem => Some(Counts {
                 sems: one_more(self.sems, MAX_DECLARED)?,
+                ..self
+            }),
+            SymbolKind::Once => Some(Counts {
+                onces: one_more(self.onces, MAX_DECLARED)?,
                 ..self
             }),
             SymbolKind::Function => Some(Counts {

@@ -65,6 +65,7 @@ fn is_same(kind: SymbolKind, other: SymbolKind) -> bool
         | (SymbolKind::Mutex, SymbolKind::Mutex)
         | (SymbolKind::Cond, SymbolKind::Cond)
         | (SymbolKind::Sem, SymbolKind::Sem)
+        | (SymbolKind::Once, SymbolKind::Once)
         | (SymbolKind::Function, SymbolKind::Function) => true,
         _ => false,
     }

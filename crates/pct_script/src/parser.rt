@@ -109,6 +109,7 @@ pub fn parse(alloc: Global, text: &[u8]) -> Result<Script, ParseFault>
         mutexes: contents.mutexes,
         conds: contents.conds,
         sems: contents.sems,
+        onces: contents.onces,
         funcs: contents.funcs,
     })
 }

@@ -202,6 +202,7 @@ pub(crate) struct ScriptContents {
     pub(crate) mutexes: Names,
     pub(crate) conds: Names,
     pub(crate) sems: SemDecls,
+    pub(crate) onces: Names,
     pub(crate) funcs: Funcs,
 }
 
@@ -214,12 +215,14 @@ fn symbol_table(alloc: Global, lines: &[Line]) -> Result<SymbolTable, AllocError
     let mutexes = names_declared(alloc, lines, SymbolKind::Mutex)?;
     let conds = names_declared(alloc, lines, SymbolKind::Cond)?;
     let sems = names_declared(alloc, lines, SymbolKind::Sem)?;
+    let onces = names_declared(alloc, lines, SymbolKind::Once)?;
     let functions = names_declared(alloc, lines, SymbolKind::Function)?;
     Ok(SymbolTable {
         globals,
         mutexes,
         conds,
         sems,
+        onces,
         functions,
     })
 }
@@ -239,6 +242,7 @@ pub(crate) fn resolve_contents(alloc: Global, lines: &[Line]) -> Result<ScriptCo
         mutexes: symbols.mutexes.into_names(),
         conds: symbols.conds.into_names(),
         sems,
+        onces: symbols.onces.into_names(),
         funcs,
     })
 }

@@ -59,6 +59,7 @@ fn kinds_by_length(length: usize) -> &'static [LineKind] {
             LineKind::Fork,
             LineKind::ProcExit,
             LineKind::Declares(SymbolKind::Cond),
+            LineKind::Declares(SymbolKind::Once),
         ],
         5 => &[
             LineKind::While,
@@ -72,7 +73,12 @@ fn kinds_by_length(length: usize) -> &'static [LineKind] {
         ],
         7 => &[LineKind::WaitPid],
         8 => &[LineKind::SemWait, LineKind::SemPost],
-        12 => &[LineKind::Join, LineKind::SelfId, LineKind::ThreadExit],
+        12 => &[
+            LineKind::Join,
+            LineKind::SelfId,
+            LineKind::ThreadExit,
+            LineKind::CallOnce,
+        ],
         13 => &[LineKind::SemTimedWait],
         14 => &[
             LineKind::Create,

@@ -72,6 +72,7 @@ pub(crate) struct SymbolTable {
     pub(crate) mutexes: Namespace,
     pub(crate) conds: Namespace,
     pub(crate) sems: Namespace,
+    pub(crate) onces: Namespace,
     pub(crate) functions: Namespace,
 }
 
@@ -85,6 +86,7 @@ impl SymbolTable {
             SymbolKind::Mutex => &self.mutexes,
             SymbolKind::Cond => &self.conds,
             SymbolKind::Sem => &self.sems,
+            SymbolKind::Once => &self.onces,
             SymbolKind::Function => &self.functions,
         }
     }

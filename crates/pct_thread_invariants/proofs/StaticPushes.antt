@@ -53,7 +53,7 @@ in_funcs (f ∷ funcs) zero pc s nested returns is = record { passes = record { 
 in_funcs (f ∷ funcs) (suc func) pc s nested returns is = in_funcs funcs func pc s (and_parts (nests f) (list_all nests funcs) nested).1 (and_parts (returns_outside_pushes f) (list_all returns_outside_pushes funcs) returns).1 is
 
 abbrev contents_of : Script → Contents
-contents_of script = record { globals = script.globals; mutexes = script.mutexes; conds = script.conds; sems = script.sems; funcs = script.funcs }
+contents_of script = record { globals = script.globals; mutexes = script.mutexes; conds = script.conds; sems = script.sems; onces = script.onces; funcs = script.funcs }
 
 in_body : (script : Script) (frame : Frame) (s : Stmt) → statement_at script frame ≡ Some s → InBody (body_of script frame.func) frame.pc s
 unfolding statement_at

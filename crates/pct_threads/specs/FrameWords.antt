@@ -1,10 +1,10 @@
 -- A frame as eleven words: the function, the program counter, the number of the kind, and the eight locals.
-use Rattle.std.specs.Prelude.{ℕ, ◌-◌, if◌then◌else◌, List, ◌∷◌, slice_index, slice_set, nat_eq}
+use Rattle.std.specs.Prelude.{ℕ, ◌+◌, ◌-◌, ◌%◌, if◌then◌else◌, List, ◌∷◌, slice_index, slice_set, nat_eq}
 use Rattle.pct_model.specs.declared.frame.Frame.{Frame}
 use Rattle.pct_model.specs.declared.state.FrameKind.{FrameKind}
 use Rattle.pct_model.specs.declared.state.FrameKind.TheVariants as kind
 
--- the number of a kind
+-- the number of a kind, which has 32 bits; the index of a once control is at most 31
 abbrev pub kind_number : FrameKind → ℕ
 kind_number kind.Main = 0
 kind_number kind.Start = 1
@@ -14,6 +14,7 @@ kind_number kind.Handler = 4
 kind_number kind.Destructor = 5
 kind_number kind.ForkFn = 6
 kind_number kind.ExitFn = 7
+kind_number (kind.OnceFn o) = (8 + o) % 4294967296
 
 -- the kind with this number
 abbrev pub kind_of : ℕ → FrameKind
@@ -25,7 +26,8 @@ kind_of n =
     else if nat_eq n 4 then kind.Handler
     else if nat_eq n 5 then kind.Destructor
     else if nat_eq n 6 then kind.ForkFn
-    else kind.ExitFn
+    else if nat_eq n 7 then kind.ExitFn
+    else kind.OnceFn (n - 8)
 
 -- the words of a frame
 abbrev pub words_of : Frame → List ℕ

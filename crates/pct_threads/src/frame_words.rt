@@ -58,7 +58,8 @@ pub(crate) fn kind_of(number: u32) -> FrameKind
         4 => FrameKind::Handler,
         5 => FrameKind::Destructor,
         6 => FrameKind::ForkFn,
-        _ => FrameKind::ExitFn,
+        7 => FrameKind::ExitFn,
+        _ => FrameKind::OnceFn(number - 8),
     }
 }
 
@@ -75,5 +76,6 @@ fn kind_number(kind: FrameKind) -> u32
         FrameKind::Destructor => 5,
         FrameKind::ForkFn => 6,
         FrameKind::ExitFn => 7,
+        FrameKind::OnceFn(once) => once.wrapping_add(8),
     }
 }

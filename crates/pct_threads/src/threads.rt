@@ -264,12 +264,11 @@ impl Threads {
     }
 
     /// Adds a frame of `func`, at its first statement, to a thread with fewer than 17 frames. The frame's first local is
-    /// `arg`, its other locals are 0. Its kind has the number `kind`, below 8: 0 for `Main`, 1 `Start`, 2 `Call`,
-    /// 3 `PopHandler`, 4 `Handler`, 5 `Destructor`, 6 `ForkFn`, 7 `ExitFn`.
+    /// `arg`, its other locals are 0. Its kind has the number `kind`: 0 for `Main`, 1 `Start`, 2 `Call`, 3 `PopHandler`,
+    /// 4 `Handler`, 5 `Destructor`, 6 `ForkFn`, 7 `ExitFn`, and 8 + o for `OnceFn` of the once control with the index o.
     pub fn push_frame(&mut self, slot: u32, func: u32, arg: u32, kind: u32)
         requires occupied { is_occupied_at self.old slot ≡ true }
         requires room { length (frames_at self.old slot) < MAX_DEPTH }
-        requires kind { kind < 8 }
         ensures { self.new ≡ on_held slot (with_frame func arg kind) self.old }
     {
         self.call(slot, func, arg, kind_of(kind));
@@ -335,11 +334,10 @@ impl Threads {
         self.row(slot).frame_word(frame, i)
     }
 
-    /// Sets a word of a frame, both named as in `frame_word`. The number of a kind is below 8.
+    /// Sets a word of a frame, both named as in `frame_word`.
     pub fn set_frame_word(&mut self, slot: u32, frame: u32, i: u32, value: u32)
         requires frame { frame < length (frames_at self.old slot) }
         requires word { i < 11 }
-        requires kind { i ≡ 2 → value < 8 }
         ensures { self.new ≡ on_held slot (with_frame_word frame i value) self.old }
     {
         self.rows[slot as usize].set_frame_word(frame, i, value);

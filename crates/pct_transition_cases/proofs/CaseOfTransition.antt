@@ -19,6 +19,7 @@ use Rattle.pct_names.proofs.Names.{requests, Required, returns_by, returns_in_ch
 use Rattle.pct_names.proofs.Names.{sem_wait_point, sets, sets_mode, sets_specific, sets_state, SharedState, signals_by, slice_index, Some}
 use Rattle.pct_names.proofs.Names.{StatementIn, Status, Stmt, stop_at, stops_of, stops_or, StopTest, subst, suc, sym, testcancel_point}
 use Rattle.pct_names.proofs.Names.{tests_cancel, Thread, Transition, transition_at, true, unlocks, value_at, value_of, waitpid_point}
+use Rattle.pct_names.proofs.Names.{Busy, calls_once, Fresh, is_fresh, leaves_routine, once_at, OnceState}
 use Rattle.pct_names.proofs.Names.{waits_at, waits_with_another_mutex, Why, ◌||◌, ℕ, ◌∙◌, ◌∷◌, ◌≡◌, ◌≤◌}
 use Rattle.std.proofs.Common.{eqb-true}
 use Rattle.std.proofs.lemmas.Bool.{true≢false, ltb-true, ltb-false}
@@ -29,6 +30,7 @@ use Rattle.pct_model.specs.declared.process.Child.{Child}
 use Rattle.pct_model.specs.declared.schedule.Alt.TheVariants as alt
 use Rattle.pct_model.specs.declared.state.Cause.TheVariants as cause
 use Rattle.pct_model.specs.declared.state.FrameKind.TheVariants as kind
+use Rattle.pct_model.specs.declared.state.OnceState.TheVariants.{Done as OnceDone}
 use Rattle.pct_model.specs.declared.state.Phase.TheVariants.{Child as ChildPhase}
 use Rattle.pct_model.specs.declared.state.Status.TheVariants as status
 use Rattle.pct_model.specs.declared.statement.Stmt.TheVariants as statement
@@ -57,7 +59,7 @@ use Rattle.pct_transition_cases.proofs.TransitionCases.{key_made, key_not_made, 
 use Rattle.pct_transition_cases.proofs.TransitionCases.{handler_popped, handler_called, exit_called, handler_run, destructor_called}
 use Rattle.pct_transition_cases.proofs.TransitionCases.{pass_begun, thread_ended, thread_ended_with_keys, last_ended, last_ended_with_keys}
 use Rattle.pct_transition_cases.proofs.TransitionCases.{exit_registered, exit_not_registered, process_exited, process_ended_now}
-use Rattle.pct_transition_cases.proofs.TransitionCases.{exit_function_called, process_ended}
+use Rattle.pct_transition_cases.proofs.TransitionCases.{exit_function_called, process_ended, routine_left, routine_called, routine_done}
 
 -- ---- stops
 
@@ -155,7 +157,7 @@ module _ (passes : ℕ) (body : List Stmt) (shared : SharedState) (t : Thread) (
 
   -- a return, by the kind of the frame
   return_case : (frame : Frame) (s : Stmt) (v : ℕ) → Returns body shared.globals frame s v → (k : FrameKind) → frame.kind ≡ k → exits_twice k shared ≡ false → Case (StatementIn frame s) status.Running (returns_by t.kept k v)
-  unfolding returns_by exits ends_by_exit
+  unfolding returns_by exits ends_by_exit leaves_routine
   return_case frame s v returns kind.Main is once = main_returned frame s v returns is once
   return_case frame s v returns kind.Start is once = start_returned frame s v returns is
   return_case frame s v returns kind.Call is once = call_left frame s v returns (inl is)
@@ -164,6 +166,7 @@ module _ (passes : ℕ) (body : List Stmt) (shared : SharedState) (t : Thread) (
   return_case frame s v returns kind.Destructor is once = handler_left frame s v returns (inr is)
   return_case frame s v returns kind.ExitFn is once = exit_function_left frame s v returns is
   return_case frame s v returns kind.ForkFn is once = leave_case frame s v returns is t.kept refl
+  return_case frame s v returns (kind.OnceFn o) is once = routine_left frame s v o returns is
 
   end_case : (frame : Frame) (opened : Option ℕ) → open_of body frame.pc ≡ opened → is_none opened && exits_twice frame.kind shared ≡ false → Case (StatementIn frame statement.End) status.Running (ends_block opened t.kept body frame)
   unfolding jumps
@@ -225,6 +228,13 @@ module _ (passes : ℕ) (body : List Stmt) (shared : SharedState) (t : Thread) (
   unfolding registers_if
   register_case frame result f true is = exit_registered frame result f is
   register_case frame result f false is = exit_not_registered frame result f
+
+  -- pthread_once, by the state of the control
+  once_case : (frame : Frame) (o f : ℕ) (state : OnceState) → once_at shared.onces o ≡ state → is_fresh state && is_stack_full t.frames ≡ false → Case (StatementIn frame (statement.CallOnce o f)) status.Running (calls_once (suc frame.pc) o f t.id state)
+  unfolding calls_once
+  once_case frame o f Fresh is room = routine_called frame o f is (below_limit (length t.frames) MAX_FRAMES room)
+  once_case frame o f (Busy id) is room = rests (StatementIn frame (statement.CallOnce o f)) status.Running (λ known. refl)
+  once_case frame o f OnceDone is room = routine_done frame o f is
 
   -- pthread_atfork, by whether there is room for one more registration
   register_fork_case : (frame : Frame) (result : Dest) (prepare parent child : Option ℕ) (room : Bool) → nat_lt (length shared.fork_handlers) MAX_FORK_HANDLERS ≡ room
@@ -305,6 +315,8 @@ module _ (passes : ℕ) (body : List Stmt) (shared : SharedState) (t : Thread) (
   running_case choice frame (statement.SemWait sem) may none = sem_wait_begun frame sem (unasked choice frame (statement.SemWait sem) may none shall_wait_for_post refl)
   running_case choice frame (statement.SemTimedWait result sem) may none = timed_sem_wait_begun frame result sem (unasked choice frame (statement.SemTimedWait result sem) may none shall_wait_for_post_in_time refl)
   running_case choice frame (statement.SemPost sem) may none = sem_posted frame sem
+  running_case choice frame (statement.CallOnce o f) may none =
+      once_case frame o f (once_at shared.onces o) refl (alone (is_fresh (once_at shared.onces o) && is_stack_full t.frames) (no_stops body shared t environment frame (statement.CallOnce o f) none).1.1)
   running_case choice frame (statement.AtFork result prepare parent child) may none = register_fork_case frame result prepare parent child (nat_lt (length shared.fork_handlers) MAX_FORK_HANDLERS) refl
   running_case choice frame (statement.Fork result child) may none = fork_begun frame result child (alone (has_begun_to_end t.reason) (no_stops body shared t environment frame (statement.Fork result child) none).1.1)
   running_case choice frame (statement.WaitPid result pid d) may none = waitpid_case frame result d pid (unasked choice frame (statement.WaitPid result pid d) may none shall_wait_for_child refl) (environment.family.child (value frame pid))

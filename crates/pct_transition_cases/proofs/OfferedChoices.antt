@@ -2,13 +2,14 @@
 use Rattle.pct_names.proofs.Names.{◌&&◌, ◌++◌, [], act_if, AllByRecursion, Alt, and_from, and_parts, ap, Asynchronous, Bool, called_kind}
 use Rattle.pct_names.proofs.Names.{can_expire, Cause, ChoiceRow, choices_at, cond, Deferred, Dest, Disable, dtor_or_go, Enable}
 use Rattle.pct_names.proofs.Names.{ending_choices, Environment, expire_if, false, false≢true, first_row, Frame, go_if, hand_on_or_act, inl}
-use Rattle.pct_names.proofs.Names.{inr, is_allowed_asynchronously, is_asynchronous, is_at_cancellation_point, is_blocked, is_create}
-use Rattle.pct_names.proofs.Names.{is_deliverable, is_ended_status, is_ended_thread, is_forbidden_in_child, is_free_mutex, is_key_create}
-use Rattle.pct_names.proofs.Names.{is_optional, is_required, is_running_child, is_signal, is_some, is_timed_wait, left_keys, List, list_any}
-use Rattle.pct_names.proofs.Names.{map, may_pass_point, Mode, nat_eq, nat_lt, new_keys, new_or_go, NextStatement, None, not, not-true}
-use Rattle.pct_names.proofs.Names.{offers, Operand, Option, Optional, or_cases, or_left, or_right, pick_or_go, PointKind, refl, Required}
-use Rattle.pct_names.proofs.Names.{running_choices, running_rows, same_choice, SharedState, slice_index, Some, State, StatementIn, Status}
-use Rattle.pct_names.proofs.Names.{Stmt, subst, sym, Thread, true, unblocked_acts, waiters_to_signal, ℕ, ◌∙◌, ◌∷◌, ◌≡◌}
+use Rattle.pct_names.proofs.Names.{inr, is_allowed_asynchronously, is_asynchronous, is_at_cancellation_point, is_blocked, is_busy}
+use Rattle.pct_names.proofs.Names.{is_create, is_deliverable, is_ended_status, is_ended_thread, is_forbidden_in_child, is_free_mutex}
+use Rattle.pct_names.proofs.Names.{is_key_create, is_optional, is_required, is_running_child, is_signal, is_some, is_timed_wait, left_keys}
+use Rattle.pct_names.proofs.Names.{List, list_any, map, may_pass_point, Mode, nat_eq, nat_lt, new_keys, new_or_go, NextStatement, None, not}
+use Rattle.pct_names.proofs.Names.{not-false, not-true, offers, once_at, Operand, Option, Optional, or_cases, or_left, or_right, pick_or_go}
+use Rattle.pct_names.proofs.Names.{PointKind, refl, Required, running_choices, running_rows, same_choice, SharedState, slice_index, Some}
+use Rattle.pct_names.proofs.Names.{State, StatementIn, Status, Stmt, subst, sym, Thread, true, unblocked_acts, waiters_to_signal, ℕ, ◌∙◌}
+use Rattle.pct_names.proofs.Names.{◌∷◌, ◌≡◌}
 use Rattle.std.proofs.Common.{eqb-true, eq-eqb}
 use Rattle.std.proofs.lemmas.Bool.{true≢false}
 use Rattle.pct_model.specs.ChoiceTable.{is_expire}
@@ -351,18 +352,25 @@ module _ (body : List Stmt) (shared : SharedState) (t : Thread) (environment : E
   offered_of next status.Exiting offered = each_has (Offered shared t environment next status.Exiting) choice (alt.Go ∷ []) (may_go next status.Exiting refl, tt) offered
   offered_of next _ offered = absurd (false≢true offered)
 
+  -- a call that is no cancellation point blocks no thread that makes it, unless the call is a stop
+  not_blocked : (forbidden asynchronous deliverable blocked : Bool) → forbidden ≡ false → asynchronous && true ≡ false
+      → offers (first_row ((forbidden, alt.Go ∷ []) ∷ (asynchronous, alt.Go ∷ act_if t.pending) ∷ (deliverable && false, alt.Act 0 ∷ []) ∷ (deliverable && false, alt.Go ∷ alt.Act 0 ∷ []) ∷ (blocked, []) ∷ []) (alt.Go ∷ [])) choice ≡ true → blocked ≡ false
+  not_blocked true _ _ _ allowed deferred offered = absurd (true≢false allowed)
+  not_blocked false true _ _ allowed deferred offered = absurd (true≢false deferred)
+  not_blocked false false _ false allowed deferred offered = refl
+  not_blocked false false true true allowed deferred offered = absurd (false≢true offered)
+  not_blocked false false false true allowed deferred offered = absurd (false≢true offered)
+
   -- a mutex that the thread may lock is free, unless the call is a stop
   pub free_to_lock : (frame : Frame) (m : ℕ) → is_forbidden_in_child body shared frame (statement.Lock m) ≡ false → is_asynchronous t.state t.mode && true ≡ false → offers (choices_at body shared t environment (StatementIn frame (statement.Lock m)) status.Running) choice ≡ true → is_free_mutex m shared ≡ true
   unfolding choices_at running_choices running_rows called_kind
-  free_to_lock frame m = by (is_forbidden_in_child body shared frame (statement.Lock m)) (is_asynchronous t.state t.mode) (is_deliverable t.state t.pending) (is_free_mutex m shared)
-    where
-      by : (forbidden asynchronous deliverable free : Bool) → forbidden ≡ false → asynchronous && true ≡ false
-          → offers (first_row ((forbidden, alt.Go ∷ []) ∷ (asynchronous, alt.Go ∷ act_if t.pending) ∷ (deliverable && false, alt.Act 0 ∷ []) ∷ (deliverable && false, alt.Go ∷ alt.Act 0 ∷ []) ∷ (not free, []) ∷ []) (alt.Go ∷ [])) choice ≡ true → free ≡ true
-      by true _ _ _ allowed deferred offered = absurd (true≢false allowed)
-      by false true _ _ allowed deferred offered = absurd (true≢false deferred)
-      by false false _ true allowed deferred offered = refl
-      by false false true false allowed deferred offered = absurd (false≢true offered)
-      by false false false false allowed deferred offered = absurd (false≢true offered)
+  free_to_lock frame m allowed deferred offered =
+      not-false (is_free_mutex m shared) (not_blocked (is_forbidden_in_child body shared frame (statement.Lock m)) (is_asynchronous t.state t.mode) (is_deliverable t.state t.pending) (not (is_free_mutex m shared)) allowed deferred offered)
+
+  -- a control on which the thread may call pthread_once is not busy, unless the call is a stop
+  pub not_busy : (frame : Frame) (o f : ℕ) → is_forbidden_in_child body shared frame (statement.CallOnce o f) ≡ false → is_asynchronous t.state t.mode && true ≡ false → offers (choices_at body shared t environment (StatementIn frame (statement.CallOnce o f)) status.Running) choice ≡ true → is_busy (once_at shared.onces o) ≡ false
+  unfolding choices_at running_choices running_rows called_kind
+  not_busy frame o f = not_blocked (is_forbidden_in_child body shared frame (statement.CallOnce o f)) (is_asynchronous t.state t.mode) (is_deliverable t.state t.pending) (is_busy (once_at shared.onces o))
 
   -- a thread that calls a function which shall be a cancellation point, and goes on, acts upon no request, unless the call is a stop
   pub gone_on_at_required : (frame : Frame) (s : Stmt) → is_required (called_kind s) ≡ true → is_allowed_asynchronously s ≡ false → is_forbidden_in_child body shared frame s ≡ false → is_asynchronous t.state t.mode && not (is_allowed_asynchronously s) ≡ false

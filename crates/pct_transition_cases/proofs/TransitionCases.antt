@@ -1,7 +1,7 @@
 -- What the transition of a thread can be, by case: one case for each shape of transition, with its actions and events in full, and
 -- with what is known of the thread where it is made. A proof about transitions has a clause for each case of which it has something to
 -- say, and one for all others.
-use Rattle.pct_names.proofs.Names.{◌%◌, ◌&&◌, ◌+◌, ◌-◌, ◌<◌, [], acts, after_block, after_end, after_test, Asynchronous, Bool}
+use Rattle.pct_names.proofs.Names.{◌%◌, ◌&&◌, ◌+◌, ◌-◌, ◌<◌, [], acts, after_block, after_end, after_test, Asynchronous, Bool, Busy, Fresh, once_at}
 use Rattle.pct_names.proofs.Names.{calls_cancellation_point, Cause, cond_timedwait_point, cond_wait_point, creates_thread, Dest, due_keys}
 use Rattle.pct_names.proofs.Names.{EAGAIN, ECHILD, end_value, ENOMEM, Environment, ETIMEDOUT, false, ForkAt, ForkHandlers, Frame, goes_on}
 use Rattle.pct_names.proofs.Names.{handler_event, HandlerCall, has_begun_to_end, has_left_wait, is_deliverable, is_ended_status}
@@ -17,6 +17,7 @@ use Rattle.pct_model.specs.declared.event.What.TheVariants as what
 use Rattle.pct_model.specs.declared.process.Child.{Child}
 use Rattle.pct_model.specs.declared.state.Cause.TheVariants as cause
 use Rattle.pct_model.specs.declared.state.FrameKind.TheVariants as kind
+use Rattle.pct_model.specs.declared.state.OnceState.TheVariants.{Done as OnceDone}
 use Rattle.pct_model.specs.declared.state.Reason.TheVariants as reason
 use Rattle.pct_model.specs.declared.state.Status.TheVariants as status
 use Rattle.pct_model.specs.declared.statement.Stmt.TheVariants as statement
@@ -79,6 +80,8 @@ module _ (passes : ℕ) (body : List Stmt) (shared : SharedState) (t : Thread) (
         → TransitionCase (StatementIn frame s) status.Running (record (acts []) { own = Some (own_action.Leave status.Ending) })
     exit_function_left : (frame : Frame) (s : Stmt) (v : ℕ) → Returns body shared.globals frame s v → frame.kind ≡ kind.ExitFn
         → TransitionCase (StatementIn frame s) status.Running (record (acts []) { own = Some (own_action.Leave status.Exiting) })
+    routine_left : (frame : Frame) (s : Stmt) (v o : ℕ) → Returns body shared.globals frame s v → frame.kind ≡ kind.OnceFn o
+        → TransitionCase (StatementIn frame s) status.Running (record (acts (what.OnceDone o ∷ [])) { own = Some (own_action.Leave status.Running); shared = Some (shared_action.SetOnce o OnceDone) })
     -- threads
     thread_made : (frame : Frame) (result id : Dest) (f : ℕ) (v : Operand) (detached : Bool) (new : ℕ) → (offered ≡ true → list_any (nat_eq new) environment.new_ids ≡ true)
         → TransitionCase (StatementIn frame (statement.Create result id f v detached)) status.Running
@@ -164,6 +167,10 @@ module _ (passes : ℕ) (body : List Stmt) (shared : SharedState) (t : Thread) (
         → TransitionCase (StatementIn frame (statement.SemTimedWait result s)) (status.InSem sem) (record (goes_on (suc frame.pc) (what.Answer caller.SemTimedWait ETIMEDOUT ∷ [])) { writes = (result, ETIMEDOUT) ∷ [] })
     sem_posted : (frame : Frame) (sem : ℕ)
         → TransitionCase (StatementIn frame (statement.SemPost sem)) status.Running (record (goes_on (suc frame.pc) (what.Posted sem ∷ [])) { shared = Some (shared_action.SetCount sem (suc (slice_index shared.counts sem) % 4294967296)) })
+    -- once controls
+    routine_called : (frame : Frame) (o f : ℕ) → once_at shared.onces o ≡ Fresh → length t.frames < MAX_FRAMES
+        → TransitionCase (StatementIn frame (statement.CallOnce o f)) status.Running (record (goes_on (suc frame.pc) (what.OnceCalled o ∷ [])) { own = Some (own_action.Call f 0 (kind.OnceFn o)); shared = Some (shared_action.SetOnce o (Busy t.id)) })
+    routine_done : (frame : Frame) (o f : ℕ) → once_at shared.onces o ≡ OnceDone → TransitionCase (StatementIn frame (statement.CallOnce o f)) status.Running (goes_on (suc frame.pc) [])
     -- processes: pthread_atfork, the steps of fork with the calls of its handlers, and waitpid
     fork_registered : (frame : Frame) (result : Dest) (handlers : ForkHandlers) → length shared.fork_handlers < MAX_FORK_HANDLERS
         → TransitionCase (StatementIn frame (statement.AtFork result handlers.prepare handlers.parent handlers.child)) status.Running (record (goes_on (suc frame.pc) []) { writes = (result, 0) ∷ []; shared = Some (shared_action.AddForkHandlers handlers) })

@@ -7,7 +7,7 @@ use Rattle.pct_model.specs.declared.schedule.Alt.TheVariants as alt
 use Rattle.pct_transition_cases.proofs.CaseOfTransition.{going_case, case_of}
 use Rattle.pct_transition_cases.proofs.PlacedStatements.{IsPlaced, nowhere, on_top, is_placed, body_placed}
 use Rattle.pct_transition_cases.proofs.TransitionCases.{Leads, past_nop, past_if, past_while, past_else, past_end, TransitionCase, jumped}
-use Rattle.pct_transition_cases.proofs.TransitionCases.{function_called, fork_handler_called, handler_pushed, handler_called, pass_begun}
+use Rattle.pct_transition_cases.proofs.TransitionCases.{function_called, fork_handler_called, handler_pushed, handler_called, pass_begun, routine_called}
 use Rattle.pct_jumps.proofs.JumpTableFacts.{closes_inside, opens_earlier}
 use Rattle.pct_engine_laws.specs.Fitting.{TransitionFits}
 use Rattle.pct_transitions.proofs.Bodies.{few_statements, pc_within}
@@ -68,6 +68,7 @@ module _ (script : Script) (passes : ℕ) (few : passes ≤ MAX_PASSES) (shared 
   case_fits placed low forks (handler_pushed frame f v room) = record { next = low; own = room }
   case_fits placed low forks (handler_called frame v f a handlers is room not_zero) = record { next = low; own = omega (arith, room) }
   case_fits placed low forks (pass_begun next none more some_due none_left) = record { next = tt; own = omega (arith, more, few) }
+  case_fits placed low forks (routine_called frame o f fresh room) = record { next = low; own = omega (arith, room) }
   case_fits placed low forks _ = assumption
 
   -- the transition of a thread that acts upon a request fits it

@@ -20,7 +20,7 @@ IsEnvironment context environment = environment ≡ environment_in (has_timeouts
 
 -- this is the context of the thread, which shares this state with the threads of its process, and sees this of them
 pub record IsContext (shared : SharedState) (t : Thread) (environment : Environment) (context : Context) : Type 0 where
-  pub shared_is : AreShared context.globals.now context.owners.now context.counts.now context.position.keys.now.places context.fork_handlers.now context.exit_functions.now context.exit_value context.restricted shared
+  pub shared_is : AreShared context.globals.now context.owners.now context.counts.now context.onces.now context.position.keys.now.places context.fork_handlers.now context.exit_functions.now context.exit_value context.restricted shared
   pub position_is : IsPosition context.program.now.script context.position t
   pub environment_is : IsEnvironment context environment
 

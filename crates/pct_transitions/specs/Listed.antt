@@ -7,10 +7,9 @@ use Rattle.pct_model.specs.declared.schedule.Alt.TheVariants as alt
 use Rattle.pct_model.specs.declared.statement.Stmt.{Stmt}
 use Rattle.pct_model.specs.CancelCalls.{called_kind}
 use Rattle.pct_model.specs.Keys.{new_keys, left_keys}
-use Rattle.pct_model.specs.MutexCalls.{is_blocked}
 use Rattle.pct_model.specs.Environment.{Environment}
 use Rattle.pct_model.specs.World.{SharedState}
-use Rattle.pct_model.specs.ChoiceTable.{first_row, is_create, is_key_create, is_signal, waiters_to_signal, new_or_go, pick_or_go}
+use Rattle.pct_model.specs.ChoiceTable.{first_row, is_blocked, is_create, is_key_create, is_signal, waiters_to_signal, new_or_go, pick_or_go}
 use Rattle.pct_threads.specs.Slots.{Slot}
 use Rattle.pct_threads.specs.Tables.{is_occupied_at, next_id_at}
 use Rattle.pct_keys.specs.Tables.{Table, row_at}

@@ -2,6 +2,7 @@
 use Rattle.std.specs.Prelude.{◌≡◌, ℕ, ◌<◌, Bool, List, length, reverse, Option, Some, None, IfSome}
 use Rattle.pct_model.specs.declared.process.ForkHandlers.{ForkHandlers}
 use Rattle.pct_model.specs.declared.script.Script.{Script}
+use Rattle.pct_model.specs.declared.state.OnceState.{OnceState}
 use Rattle.pct_model.specs.Keys.{KeyPlace}
 use Rattle.pct_model.specs.World.{Thread, SharedState, statement_at}
 use Rattle.pct_model.specs.NextStatement.{NextStatement, NoStatement, StatementIn, next_of}
@@ -42,12 +43,13 @@ pub record IsPosition (script : Script) (position : Position) (t : Thread) : Typ
 abbrev pub HasRow : Position → Type 0
 HasRow position = position.slot < length position.keys.now.rows
 
--- these are the globals, the owners of mutexes, the counts of semaphores, the keys, the fork handlers, the functions that are registered
--- with atexit and the value of exit of the shared state, and whether the process is restricted
-pub record AreShared (globals owners counts : List ℕ) (keys : List KeyPlace) (fork_handlers : List ForkHandlers) (exit_functions : List ℕ) (exit_value : Option ℕ) (restricted : Bool) (shared : SharedState) : Type 0 where
+-- these are the globals, the owners of mutexes, the counts of semaphores, the states of once controls, the keys, the fork handlers, the
+-- functions that are registered with atexit and the value of exit of the shared state, and whether the process is restricted
+pub record AreShared (globals owners counts : List ℕ) (onces : List OnceState) (keys : List KeyPlace) (fork_handlers : List ForkHandlers) (exit_functions : List ℕ) (exit_value : Option ℕ) (restricted : Bool) (shared : SharedState) : Type 0 where
   pub globals_are : globals ≡ shared.globals
   pub owners_are : owners ≡ shared.owners
   pub counts_are : counts ≡ shared.counts
+  pub onces_are : onces ≡ shared.onces
   pub keys_are : keys ≡ shared.keys
   pub fork_handlers_are : fork_handlers ≡ shared.fork_handlers
   pub exit_functions_are : exit_functions ≡ shared.exit_functions

@@ -24,6 +24,7 @@ use crate::cancel_calls::{called_kind, may_pass_point};
 use crate::context::Context;
 use crate::current::{At, is_timed_next};
 use crate::mutex_calls::is_free_mutex;
+use crate::once_calls::{is_busy, once_at};
 use crate::sem_calls::count_of;
 use crate::stop_table::is_forbidden_in_child;
 use pct_keys::{Keys, key_place};
@@ -276,8 +277,8 @@ fn nth_id(threads: &Threads, held: &SlotSet, n: usize) -> Option<u32>
 /// The choices of a thread in this context. A running thread with a next statement that its process may not execute has `go`. With
 /// another one it has `go`, or at pthread_create an id for a new thread, where a slot is free, at pthread_key_create a number for a
 /// new key, where a place is free, and at pthread_cond_signal the id of a thread that waits, where one does; at pthread_mutex_lock it
-/// has none while the mutex has an owner; where it may act upon a pending request it has `go` and
-/// `act`, and where it must, `act` alone. One that is suspended at a cancellation point has `go`, if what it waits for may occur
+/// has none while the mutex has an owner, and at pthread_once none while the control is busy; where it may act upon a pending request it
+/// has `go` and `act`, and where it must, `act` alone. One that is suspended at a cancellation point has `go`, if what it waits for may occur
 /// at any time, one that joins another, once that has ended, one in sem_wait, while the count is above 0, and one in waitpid, unless
 /// it has the child and the child has not ended; one that waits on a condition variable has none, and once it was unblocked it has `go`
 /// while its mutex has no owner. One that waits with a time, and has no `go` or waits on a condition variable, has `expire`, if the run
@@ -419,6 +420,7 @@ fn statement_choices(context: &Context, statement: &Stmt) -> Choices
         Stmt::Create { .. } => new_or_go(&context.free_slots()),
         Stmt::KeyCreate { .. } => new_key_or_go(context.position.keys),
         Stmt::Lock(mutex) => go_or_act(is_free_mutex(context.owners, *mutex), false),
+        Stmt::CallOnce { once, .. } => go_or_act(!is_busy(once_at(context.onces, *once)), false),
         Stmt::Signal(cond) => pick_or_go(&context.waiters(*cond)),
         _ => Choices::Go,
     }

@@ -12,6 +12,7 @@ ghost use Rattle.pct_transitions.specs.ProcessSteps.{NewNumbersFit};
 
 use crate::position::{Position, position_of};
 use crate::program::Program;
+use pct_model::OnceState;
 use pct_process::{ExitFunctions, Family, ForkRegistrations, ProcessState};
 use pct_threads::Threads;
 
@@ -39,6 +40,8 @@ pub(crate) struct Context<'a> {
     pub owners: &'a [u32],
     /// The count of each semaphore of the process.
     pub counts: &'a [u32],
+    /// The state of each once control of the process.
+    pub onces: &'a [OnceState],
     /// The fork handlers that are registered with pthread_atfork.
     pub fork_handlers: &'a ForkRegistrations,
     /// The functions that are registered with atexit.
@@ -68,6 +71,7 @@ impl<'a> Context<'a> {
             globals: process.globals.as_slice(),
             owners: process.owners.as_slice(),
             counts: process.counts.as_slice(),
+            onces: process.onces.as_slice(),
             fork_handlers: &process.fork_handlers,
             exit_functions: &process.exit_functions,
             exit_value: process.exit_value,

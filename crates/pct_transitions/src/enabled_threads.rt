@@ -8,6 +8,7 @@ ghost use Rattle.pct_model.specs.Cancelability.{is_deliverable, is_asynchronous}
 ghost use Rattle.pct_model.specs.World.{Thread};
 ghost use Rattle.pct_model.specs.NextStatement.{NextStatement, next_of};
 ghost use Rattle.pct_model.specs.MutexCalls.{is_free_mutex};
+ghost use Rattle.pct_model.specs.OnceCalls.{once_at};
 ghost use Rattle.pct_model.specs.OtherProcesses.{Family as OtherProcesses};
 ghost use Rattle.pct_model.specs.Environment.{Waiter, Environment, is_ended_thread};
 ghost use Rattle.pct_model.specs.ChoiceTable.{choices_at, running_choices, unblocked_acts, go_if, expire_if, act_if, is_enabled, is_timed_wait};
@@ -20,12 +21,13 @@ ghost use Rattle.pct_transitions.specs.ThreadRecords.{IsRecord, HasCancelability
 
 use crate::current::{At, is_timed_next, next_of};
 use crate::mutex_calls::is_free_mutex;
+use crate::once_calls::{is_busy, once_at};
 use crate::other_threads::exit_value_of;
 use crate::program::Program;
 use crate::sem_calls::count_of;
 use crate::stop_table::is_fork_kind;
 use pct_cancel::Cancel;
-use pct_model::{Cause, FrameKind, Stmt};
+use pct_model::{Cause, FrameKind, OnceState, Stmt};
 use pct_process::ProcessState;
 use pct_threads::Thread as ThreadRecord;
 
@@ -55,6 +57,14 @@ pub fn is_unowned(process: &ProcessState, mutex: u32) -> bool
     ensures { result ≡ is_free_mutex mutex process.now.shared }
 {
     is_free_mutex(process.owners.as_slice(), mutex)
+}
+
+/// The state of the once control of a process with this index.
+#[inline(always)]
+pub fn once_in(process: &ProcessState, once: u32) -> OnceState
+    ensures { result ≡ once_at process.now.shared.onces once }
+{
+    once_at(process.onces.as_slice(), once)
 }
 
 /// The count of the semaphore of a process with this index.
@@ -158,8 +168,8 @@ pub(crate) fn runs_on(program: &Program, process: &ProcessState, slot: u32, canc
     }
 }
 
-// Whether a running thread with this cancelability has a choice at a statement of its top frame. It may have none at pthread_mutex_lock
-// alone, while the mutex has an owner.
+// Whether a running thread with this cancelability has a choice at a statement of its top frame. It may have none at pthread_mutex_lock,
+// while the mutex has an owner, and at pthread_once, while the control is busy.
 #[inline(always)]
 fn runs_at(process: &ProcessState, cancel: &Cancel, at: &At) -> bool
     ensures { (body : List Statement) (t : Thread) (environment : Environment) → HasCancelability cancel.now t
@@ -169,22 +179,26 @@ fn runs_at(process: &ProcessState, cancel: &Cancel, at: &At) -> bool
         Stmt::Lock(mutex) => {
             is_unowned(process, *mutex) || is_not_blocked(process, cancel, at.frame.kind)
         }
+        Stmt::CallOnce { once, .. } => {
+            !is_busy(once_in(process, *once)) || is_not_blocked(process, cancel, at.frame.kind)
+        }
         _ => true,
     }
 }
 
 // Whether a running thread with this cancelability, in a frame of this kind, has a choice at pthread_mutex_lock also while the mutex has an
-// owner: it may act upon a request at any time, or its process may not execute the call, which then is a stop.
+// owner, and at pthread_once also while the control is busy: it may act upon a request at any time, or its process may not execute the
+// call, which then is a stop.
 #[inline(always)]
 fn is_not_blocked(process: &ProcessState, cancel: &Cancel, kind: FrameKind) -> bool
     ensures { (t : Thread) → HasCancelability cancel.now t → result ≡ (is_asynchronous t.state t.mode || (process.now.shared.restricted && not (is_fork_kind kind))) }
 {
-    cancel.async_on() || is_lock_forbidden(process, kind)
+    cancel.async_on() || is_call_forbidden(process, kind)
 }
 
-// Whether the process may not execute pthread_mutex_lock in a frame of this kind.
+// Whether the process may not execute pthread_mutex_lock and pthread_once in a frame of this kind.
 #[inline(always)]
-fn is_lock_forbidden(process: &ProcessState, kind: FrameKind) -> bool
+fn is_call_forbidden(process: &ProcessState, kind: FrameKind) -> bool
     ensures { result ≡ (process.now.shared.restricted && not (is_fork_kind kind)) }
 {
     process.restricted && !is_fork_kind(kind)

@@ -6,6 +6,7 @@ ghost use Rattle.pct_model.specs.ProcessExit.{exits, returns_by, ends_now, goes_
 ghost use Rattle.pct_model.specs.World.{SharedState};
 
 use crate::fork_calls::leaves_handler;
+use crate::once_calls::leaves_routine;
 use crate::thread_ends::ends_by_exit;
 use crate::transitions::{acts, fails, goes_on, leaves, no_change};
 use pct_model::{
@@ -29,7 +30,7 @@ pub(crate) fn exits(value: u32) -> Transition
 
 /// `return` of a value, by the kind of the top frame of the thread with this record. A return from `main` in the initial thread acts as
 /// exit, one from the start routine of another thread as pthread_exit (XSH pthread_create). A return from a fork handler goes on with
-/// the fork, by the values that the thread kept.
+/// the fork, by the values that the thread kept, and one from an init routine completes its once control (XSH pthread_once).
 #[tactic(auto, unfolding(pct_model::specs::ProcessExit::returns_by))]
 #[inline(never)]
 pub(crate) fn returns_by(thread: &Thread, kind: FrameKind, value: u32, transition: &mut Transition)
@@ -44,6 +45,7 @@ pub(crate) fn returns_by(thread: &Thread, kind: FrameKind, value: u32, transitio
         FrameKind::Destructor => *transition = leaves(Status::Ending),
         FrameKind::ExitFn => *transition = leaves(Status::Exiting),
         FrameKind::ForkFn => *transition = leaves_handler(thread.kept),
+        FrameKind::OnceFn(once) => *transition = leaves_routine(once),
     }
 }
 

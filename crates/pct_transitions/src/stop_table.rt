@@ -15,6 +15,7 @@ ghost use Rattle.pct_transitions.specs.Contexts.{IsContext, IsWhole, IsEnvironme
 use crate::context::Context;
 use crate::current::{At, value_of};
 use crate::mutex_calls::owns;
+use crate::once_calls::{is_fresh, once_at};
 use crate::program::Program;
 use pct_keys::Keys;
 use pct_model::{
@@ -86,6 +87,10 @@ fn own_stop(context: &Context, at: &At) -> Option<Why>
         Stmt::End => first_stop(&[(
             exits_twice(frame.kind, context.exit_value) && closes_function(context.program, frame),
             Why::ExitTwice,
+        )]),
+        Stmt::CallOnce { once, .. } => first_stop(&[(
+            is_fresh(once_at(context.onces, *once)) && is_stack_full(position.depth),
+            Why::StackFull,
         )]),
         Stmt::Do(_, _) => first_stop(&[(is_stack_full(position.depth), Why::StackFull)]),
         Stmt::Pop(operand) => first_stop(&[(

@@ -25,6 +25,7 @@ use crate::fork_calls::{
 };
 use crate::key_calls::{KeyCreateCall, creates_key_by, deletes_key, gets_specific, sets_specific};
 use crate::mutex_calls::{locks, unlocks};
+use crate::once_calls::{OnceCall, calls_once, once_at};
 use crate::process_exit::{
     ends_now, exits, goes_on_exiting, may_register, registers_if, returns_by,
 };
@@ -239,6 +240,15 @@ fn runs(context: &Context, at: &At, choice: Alt, transition: &mut Transition)
         Stmt::SemTimedWait { sem, .. } => *transition = begins_sem_wait(SEM_TIMEDWAIT_POINT, *sem),
         Stmt::SemPost(sem) => {
             *transition = posts(next_pc(frame), *sem, count_of(context.counts, *sem));
+        }
+        Stmt::CallOnce { once, func } => {
+            let call = OnceCall {
+                once: *once,
+                func: *func,
+                id: position.id,
+            };
+            let state = once_at(context.onces, *once);
+            calls_once(call, next_pc(frame), state, transition);
         }
         Stmt::AtFork {
             result: answer,

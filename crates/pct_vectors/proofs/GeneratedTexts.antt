@@ -142,9 +142,9 @@ module _ (threads rounds : ℕ) (few : threads ≤ 28) where
   unfolding script_lines declaration_syntax generated_lines global_text
   script_text =
       let front = first_globals ++ map global_text (range_with_len 1 threads) in
-      five of_line (map (λ name. declaration_line kind.Global (name ∷ [])) (global_names threads)) (declaration_line kind.Mutex (codes "m" ∷ []) ∷ []) (declaration_line kind.Cond (codes "c" ∷ []) ∷ []) [] (flat_map (function_lines (generated_contents threads rounds)) (generated_functions threads rounds))
+      six of_line (map (λ name. declaration_line kind.Global (name ∷ [])) (global_names threads)) (declaration_line kind.Mutex (codes "m" ∷ []) ∷ []) (declaration_line kind.Cond (codes "c" ∷ []) ∷ []) [] [] (flat_map (function_lines (generated_contents threads rounds)) (generated_functions threads rounds))
       ∙ same_pair
-      (append-nil _ ∙ append_assoc (map of_line (map (λ name. declaration_line kind.Global (name ∷ [])) (global_names threads))) (codes "mutex m" ∷ []) (codes "cond c" ∷ []) ∙ ap (λ lines. lines ++ later_declarations) globals_text)
+      (append-nil _ ∙ append-nil _ ∙ append_assoc (map of_line (map (λ name. declaration_line kind.Global (name ∷ [])) (global_names threads))) (codes "mutex m" ∷ []) (codes "cond c" ∷ []) ∙ ap (λ lines. lines ++ later_declarations) globals_text)
       functions_text
       ∙ sym (append_assoc (front ++ later_declarations) function_texts main_texts)
       ∙ sym (regrouped (front ++ later_declarations ++ function_texts) (codes "pthread_key_create - key bye" ∷ []) (map (call_text call.Create) (range_with_len 1 threads)) ((codes "set n " ++ decimal rounds) ∷ round_texts) (map (call_text call.Cancel) (range_with_len 1 threads)) (map (call_text call.Join) (range_with_len 1 threads)) end_texts)

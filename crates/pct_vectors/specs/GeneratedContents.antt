@@ -102,5 +102,6 @@ generated_contents threads rounds = record {
   mutexes = codes "m" ∷ [];
   conds = codes "c" ∷ [];
   sems = [];
+  onces = [];
   funcs = generated_functions threads rounds;
 }

@@ -24,6 +24,7 @@ pub fn generate(alloc: Global, number: u32) -> Result<Script, NoMemory>
         mutexes: one_name(alloc, b"m")?,
         conds: one_name(alloc, b"c")?,
         sems: Sequence::of(Vec::new(alloc)),
+        onces: Sequence::of(Vec::new(alloc)),
         funcs: functions(alloc, threads, rounds)?,
     })
 }

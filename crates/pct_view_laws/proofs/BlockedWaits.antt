@@ -1,11 +1,12 @@
 -- A thread that waits cannot go on, and one that has no choice waits.
-use Rattle.pct_names.proofs.Names.{◌++◌, ◌<◌, [], All, All-head, Alt, ap, arith, body_at, body_of, Bool, choices_at, choices_of}
+use Rattle.pct_names.proofs.Names.{◌++◌, ◌<◌, [], All, All-head, Alt, ap, arith, body_at, body_of, Bool, Busy, choices_at, choices_of}
 use Rattle.pct_names.proofs.Names.{Environment, environment_of, false, false_from_ne_true, false≢true, Frame, Func, go_if, has_no_frame}
-use Rattle.pct_names.proofs.Names.{if◌then◌else◌, is_blocked, is_empty, is_enabled, is_ended_status, is_ended_thread, is_free_mutex}
-use Rattle.pct_names.proofs.Names.{is_running_child, is_some, length, List, made_process, may_pass_point, nat_lt, next_in, next_of}
-use Rattle.pct_names.proofs.Names.{NextStatement, None, NoStatement, not, offers, Option, option_and_then, option_map_or, Process, refl}
-use Rattle.pct_names.proofs.Names.{Script, SharedState, slice_get, slice_get-get_or, slice_index, Some, statement_at, StatementIn, Status}
-use Rattle.pct_names.proofs.Names.{Stmt, subst, sym, Thread, true, true_from_ne_false, World, ◌∙◌, ◌∷◌, ◌≡◌}
+use Rattle.pct_names.proofs.Names.{if◌then◌else◌, is_blocked, is_busy, is_empty, is_enabled, is_ended_status, is_ended_thread}
+use Rattle.pct_names.proofs.Names.{is_free_mutex, is_running_child, is_some, length, List, made_process, may_pass_point, nat_lt, next_in}
+use Rattle.pct_names.proofs.Names.{next_of, NextStatement, None, NoStatement, not, offers, once_at, OnceState, Option, option_and_then}
+use Rattle.pct_names.proofs.Names.{option_map_or, Process, refl, Script, SharedState, slice_get, slice_get-get_or, slice_index, Some}
+use Rattle.pct_names.proofs.Names.{statement_at, StatementIn, Status, Stmt, subst, sym, Thread, true, true_from_ne_false, World, ℕ, ◌∙◌}
+use Rattle.pct_names.proofs.Names.{◌∷◌, ◌≡◌}
 use Rattle.std.proofs.lemmas.Bool.{true≢false}
 use Rattle.pct_model.specs.declared.schedule.Alt.TheVariants as alt
 use Rattle.pct_model.specs.declared.state.Status.TheVariants as status
@@ -17,7 +18,7 @@ use Rattle.pct_thread_invariants.proofs.lift.MadeThreads.{HasValidId, with_valid
 use Rattle.pct_thread_invariants.proofs.lift.ProcessIds.{HavePids, have_pids, ids_of_made}
 use Rattle.pct_view_laws.specs.declared.wait.Wait.{Wait}
 use Rattle.pct_view_laws.specs.Listed.{BlockedThreadsWait, IsBlockedIfWaiting}
-use Rattle.pct_view_laws.specs.Waits.{wait_at, wait_by, wait_in}
+use Rattle.pct_view_laws.specs.Waits.{once_wait, wait_at, wait_by, wait_in}
 use Rattle.pct_view_laws.proofs.ListedThreads.{IsListed, listed_was}
 
 -- ---- tests
@@ -74,10 +75,16 @@ module _ (shared : SharedState) (environment : Environment) where
   suspended_waits : (s : Status) (acting : List Alt) → is_ended_status s ≡ false → is_enabled (go_if (goes_at shared environment s) ++ acting) ≡ false → is_some (wait_in shared environment s) ≡ true
   suspended_waits s acting alive none = waits_unless_goes s alive ∙ ap not (go_disabled (goes_at shared environment s) acting none)
 
+  -- at a once control the thread waits exactly if the control is busy
+  waits_if_busy : (o : ℕ) (state : OnceState) → is_some (once_wait shared environment o state) ≡ is_busy state
+  waits_if_busy o (Busy id) = refl
+  waits_if_busy o _ = refl
+
   -- at a statement that blocks a thread, it waits
   waits_at_blocked : (frame : Frame) (s : Stmt) → is_blocked s shared ≡ true → is_some (wait_at shared environment (StatementIn frame s)) ≡ true
   unfolding wait_at
   waits_at_blocked frame (statement.Lock m) blocked = waits_unless (is_free_mutex m shared) _ ∙ blocked
+  waits_at_blocked frame (statement.CallOnce o f) blocked = waits_if_busy o (once_at shared.onces o) ∙ blocked
   waits_at_blocked frame _ blocked = absurd (false≢true blocked)
 
 module _ (body : List Stmt) (shared : SharedState) (t : Thread) (environment : Environment) where

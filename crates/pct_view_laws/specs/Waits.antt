@@ -2,6 +2,8 @@
 -- the event has occurred, or may occur at any time.
 use Rattle.std.specs.Prelude.{ℕ, if◌then◌else◌, List, Option, Some, None, nat_lt, slice_index}
 use Rattle.pct_model.specs.declared.schedule.Alt.{Alt}
+use Rattle.pct_model.specs.declared.state.OnceState.{OnceState}
+use Rattle.pct_model.specs.declared.state.OnceState.TheVariants.{Busy}
 use Rattle.pct_model.specs.declared.state.Status.{Status}
 use Rattle.pct_model.specs.declared.state.Status.TheVariants as status
 use Rattle.pct_model.specs.declared.statement.Stmt.TheVariants as statement
@@ -9,6 +11,7 @@ use Rattle.pct_model.specs.CancelCalls.{may_pass_point}
 use Rattle.pct_model.specs.ChoiceTable.{is_enabled}
 use Rattle.pct_model.specs.MutexCalls.{is_free_mutex}
 use Rattle.pct_model.specs.NextStatement.{NextStatement, StatementIn}
+use Rattle.pct_model.specs.OnceCalls.{once_at}
 use Rattle.pct_model.specs.OtherProcesses.{is_running_child}
 use Rattle.pct_model.specs.Environment.{Environment, is_ended_thread}
 use Rattle.pct_model.specs.World.{SharedState}
@@ -36,9 +39,15 @@ module _ (shared : SharedState) (environment : Environment) where
   wait_in (status.Reacquire c m why) = mutex_wait m
   wait_in _ = None
 
-  -- what a running thread waits for that has no choice. XSH pthread_mutex_lock: the mutex has an owner
+  -- a thread that calls pthread_once waits until the init routine returns, which another thread, or it itself, called (XSH pthread_once)
+  abbrev pub once_wait : ℕ → OnceState → Option Wait
+  once_wait o (Busy id) = Some (wait.Once o id)
+  once_wait o _ = None
+
+  -- what a running thread waits for that has no choice. XSH pthread_mutex_lock: the mutex has an owner. XSH pthread_once: the control is busy
   unfoldable pub wait_at : NextStatement → Option Wait
   wait_at (StatementIn frame (statement.Lock m)) = mutex_wait m
+  wait_at (StatementIn frame (statement.CallOnce o f)) = once_wait o (once_at shared.onces o)
   wait_at _ = None
 
   -- what a thread with these choices waits for

@@ -5,6 +5,8 @@
 pub enum Wait {
     /// The unlock of a mutex: its index, and the id of the thread that owns it.
     Mutex { mutex: u32, owner: u32 },
+    /// The return of the init routine of a once control: its index, and the id of the thread that called the routine.
+    Once { once: u32, caller: u32 },
     /// The end of the thread of its process with this id.
     Thread(u32),
     /// The end of the process with this id.

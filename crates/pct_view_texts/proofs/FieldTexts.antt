@@ -38,6 +38,10 @@ phrases_before (first ∷ phrases) next others =
     ∙ sym (append_assoc (phrase_text first) (flat_map after phrases) (codes ", " ++ field_text (next ∷ others)))
     ∙ sym (append_assoc (phrase_text first ++ flat_map after phrases) (codes ", ") (field_text (next ∷ others)))
 
+-- a field of two phrases
+pub two_phrases : (first second : Phrase) → field_text (first ∷ second ∷ []) ≡ phrase_text first ++ codes ", " ++ phrase_text second
+two_phrases first second = phrases_before (first ∷ []) second [] ∙ (λ i. one_phrase first i ++ codes ", " ++ one_phrase second i)
+
 -- a line is its first field, HT, and the line of the others
 pub next_field : (first next : List Phrase) (fields : List (List Phrase)) → fields_text (first ∷ next ∷ fields) ≡ field_text first ++ 9 ∷ fields_text (next ∷ fields)
 unfolding fields_text

@@ -68,6 +68,10 @@ next_place on place old mid new first next =
     ∙ sym (flat_map-append on (range_with_len 0 place) (place ∷ []))
     ∙ ap (flat_map on) (sym (range_more place))))
 
+-- several phrases for each item
+pub phrases_each : {X : Type 0} (phrases_of : X → List Phrase) (xs : List X) → flat_map (λ x. after_commas (phrases_of x)) xs ≡ after_commas (flat_map phrases_of xs)
+phrases_each phrases_of xs = sym (flat_map-flat_map (λ (phrase : Phrase). codes ", " ++ phrase_text phrase) phrases_of xs)
+
 -- ---- items that are left
 
 -- no item is left
@@ -109,30 +113,36 @@ named_values first vs =
 
 -- ---- what is registered
 
--- phrases in four parts
-four_parts : (a b c d : List Phrase) → (after_commas a ++ after_commas b) ++ (after_commas c ++ after_commas d) ≡ after_commas (((a ++ b) ++ c) ++ d)
-four_parts a b c d =
-    sym (append_assoc (after_commas a ++ after_commas b) (after_commas c) (after_commas d))
+-- phrases in five parts
+five_parts : (a b c d e : List Phrase) → (after_commas a ++ after_commas b) ++ (after_commas c ++ (after_commas d ++ after_commas e)) ≡ after_commas ((((a ++ b) ++ c) ++ d) ++ e)
+five_parts a b c d e =
+    sym (append_assoc (after_commas a ++ after_commas b) (after_commas c) (after_commas d ++ after_commas e))
+    ∙ sym (append_assoc ((after_commas a ++ after_commas b) ++ after_commas c) (after_commas d) (after_commas e))
     ∙ sym
+    (more_phrases (((a ++ b) ++ c) ++ d) e
+    ∙ ap (λ (text : List ℕ). text ++ after_commas e)
     (more_phrases ((a ++ b) ++ c) d
-    ∙ ap (λ (text : List ℕ). text ++ after_commas d) (more_phrases (a ++ b) c ∙ ap (λ (text : List ℕ). text ++ after_commas c) (more_phrases a b)))
+    ∙ ap (λ (text : List ℕ). text ++ after_commas d) (more_phrases (a ++ b) c ∙ ap (λ (text : List ℕ). text ++ after_commas c) (more_phrases a b))))
 
--- how far a process is, its exit functions and its fork handlers were appended
-pub registered_text : {E : Type 0} (r : Result (Unit {0}) E) (old mid last new : List ℕ) (script : Script) (exit_value : Option ℕ) (restricted : Bool) (functions : List ℕ) (registrations handlers : List ForkHandlers)
+-- how far a process is, its exit functions, its fork handlers and its once controls were appended
+pub registered_text : {E : Type 0} (r : Result (Unit {0}) E) (old t0 t1 t2 new : List ℕ) (script : Script) (exit_value : Option ℕ) (restricted : Bool) (functions : List ℕ) (registrations handlers : List ForkHandlers) (onces : List Phrase)
     → registrations ≡ handlers
-    → mid ≡ old ++ (after_commas (exit_phrases exit_value) ++ after_commas (restricted_phrases restricted))
-    → last ≡ mid ++ flat_map (λ f. codes ", " ++ phrase_text (exit_function_phrase script f)) functions
-    → OnOk r (new ≡ last ++ flat_map (λ h. codes ", " ++ phrase_text (fork_handlers_phrase script h)) registrations)
-    → OnOk r (new ≡ old ++ after_commas (exit_phrases exit_value ++ restricted_phrases restricted ++ map (exit_function_phrase script) functions ++ map (fork_handlers_phrase script) handlers))
-registered_text r old mid last new script exit_value restricted functions registrations handlers same first second third =
+    → t0 ≡ old ++ (after_commas (exit_phrases exit_value) ++ after_commas (restricted_phrases restricted))
+    → t1 ≡ t0 ++ flat_map (λ f. codes ", " ++ phrase_text (exit_function_phrase script f)) functions
+    → t2 ≡ t1 ++ flat_map (λ h. codes ", " ++ phrase_text (fork_handlers_phrase script h)) registrations
+    → OnOk r (new ≡ t2 ++ after_commas onces)
+    → OnOk r (new ≡ old ++ after_commas (exit_phrases exit_value ++ restricted_phrases restricted ++ map (exit_function_phrase script) functions ++ map (fork_handlers_phrase script) handlers ++ onces))
+registered_text r old t0 t1 t2 new script exit_value restricted functions registrations handlers onces same first second third last =
     let progress = after_commas (exit_phrases exit_value) ++ after_commas (restricted_phrases restricted) in
     let of_functions : List ℕ = flat_map (λ f. codes ", " ++ phrase_text (exit_function_phrase script f)) functions in
     let of_handlers : List ForkHandlers → List ℕ = flat_map (λ h. codes ", " ++ phrase_text (fork_handlers_phrase script h)) in
-    as_text r old new (progress ++ (of_functions ++ of_handlers registrations)) _
-    ((λ i. progress ++ (sym (each_phrase (exit_function_phrase script) functions) i ++ (ap of_handlers same ∙ sym (each_phrase (fork_handlers_phrase script) handlers)) i))
-    ∙ four_parts (exit_phrases exit_value) (restricted_phrases restricted) (map (exit_function_phrase script) functions) (map (fork_handlers_phrase script) handlers))
-    (then_text r old mid new progress (of_functions ++ of_handlers registrations) first
-    (then_text r mid last new of_functions (of_handlers registrations) second third))
+    let later = of_handlers registrations ++ after_commas onces in
+    as_text r old new (progress ++ (of_functions ++ later)) _
+    ((λ i. progress ++ (sym (each_phrase (exit_function_phrase script) functions) i ++ ((ap of_handlers same ∙ sym (each_phrase (fork_handlers_phrase script) handlers)) i ++ after_commas onces)))
+    ∙ five_parts (exit_phrases exit_value) (restricted_phrases restricted) (map (exit_function_phrase script) functions) (map (fork_handlers_phrase script) handlers) onces)
+    (then_text r old t0 new progress (of_functions ++ later) first
+    (then_text r t0 t1 new of_functions later second
+    (then_text r t1 t2 new (of_handlers registrations) (after_commas onces) third last)))
 
 -- a list without a first item
 pub none_first : {X : Type 0} (xs : List X) (first : Option X) → first ≡ slice_get xs 0 → ((x : X) → first ≡ Some x → ⊥) → xs ≡ []

@@ -105,7 +105,7 @@ line_of : (script : Script) (p : ListedProcess) (pid : ℕ) (s : SharedState) �
     ∷ mutex_phrases pid script.mutexes s.owners
     ∷ value_phrases (map (λ d. d.name) script.sems) s.counts
     ∷ key_phrases script s.keys
-    ∷ registered_phrases script s
+    ∷ registered_phrases script pid s
     ∷ [])
     ≡ fields_text (process_fields script p)
 unfolding process_fields
@@ -119,7 +119,7 @@ pub process_line : {E : Type 0} (r : Result (Unit {0}) E) (old t0 t1 t2 t3 t4 t5
     → t2 ≡ t1 ++ (9 ∷ field_text (mutex_phrases pid script.mutexes s.owners))
     → t3 ≡ t2 ++ (9 ∷ field_text (value_phrases (map (λ d. d.name) script.sems) s.counts))
     → t4 ≡ t3 ++ (9 ∷ field_text (key_phrases script s.keys))
-    → t5 ≡ t4 ++ (9 ∷ field_text (registered_phrases script s))
+    → t5 ≡ t4 ++ (9 ∷ field_text (registered_phrases script pid s))
     → OnOk r (new ≡ t5 ++ (10 ∷ []))
     → OnOk r (new ≡ old ++ fields_text (process_fields script p))
 process_line r old t0 t1 t2 t3 t4 t5 new script pid p s same shared number globals mutexes semaphores keys registered last =

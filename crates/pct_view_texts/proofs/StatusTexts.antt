@@ -12,6 +12,7 @@ use Rattle.pct_view_texts.proofs.FieldTexts.{phrases_before}
 pub before_wait : (phrases : List Phrase) (script : Script) (pid : ℕ) (w : Wait) → field_text (phrases ++ wait_phrases script pid w) ≡ before_comma phrases ++ field_text (wait_phrases script pid w)
 unfolding wait_phrases
 before_wait phrases script pid (wait.Mutex m owner) = phrases_before phrases _ _
+before_wait phrases script pid (wait.Once o caller) = phrases_before phrases _ _
 before_wait phrases script pid (wait.Thread id) = phrases_before phrases _ _
 before_wait phrases script pid (wait.Process child) = phrases_before phrases _ _
 before_wait phrases script pid (wait.Semaphore s) = phrases_before phrases _ _

@@ -9,7 +9,7 @@ use Rattle.pct_model.specs.declared.state.State.{State}
 use Rattle.pct_model.specs.declared.state.State.TheVariants.{Enable, Disable}
 use Rattle.pct_model.specs.declared.state.Status.{Status}
 use Rattle.pct_model.specs.declared.state.Status.TheVariants as status
-use Rattle.pct_model.specs.EventTexts.{cond_name, func_name, mutex_name, sem_name}
+use Rattle.pct_model.specs.EventTexts.{cond_name, func_name, mutex_name, once_name, sem_name}
 use Rattle.pct_model.specs.Keywords.{keyword_text, line_text, text_of}
 use Rattle.pct_model.specs.Report.{entry_line, thread_text, verdict_line}
 use Rattle.pct_model.specs.Run.{verdict_of}
@@ -27,9 +27,10 @@ use Rattle.pct_view_texts.specs.Positions.{is_timed_at, position_phrases, statem
 abbrev pub waits_for : List (List ℕ) → Phrase
 waits_for words = codes "waits" ∷ codes "for" ∷ words
 
--- what a thread of a process with this id waits for; of a mutex also who holds it
+-- what a thread of a process with this id waits for; of a mutex also who holds it, and of a once control who called its init routine
 unfoldable pub wait_phrases : Script → ℕ → Wait → List Phrase
 wait_phrases script pid (wait.Mutex m owner) = waits_for (codes "mutex" ∷ mutex_name script m ∷ []) ∷ (codes "held" ∷ codes "by" ∷ thread_text pid owner ∷ []) ∷ []
+wait_phrases script pid (wait.Once o caller) = waits_for (codes "once" ∷ codes "control" ∷ once_name script o ∷ []) ∷ (codes "called" ∷ codes "by" ∷ thread_text pid caller ∷ []) ∷ []
 wait_phrases script pid (wait.Thread id) = waits_for (codes "thread" ∷ thread_text pid id ∷ []) ∷ []
 wait_phrases script pid (wait.Process child) = waits_for (codes "process" ∷ decimal child ∷ []) ∷ []
 wait_phrases script pid (wait.Semaphore s) = waits_for (codes "semaphore" ∷ sem_name script s ∷ []) ∷ []

@@ -1,5 +1,5 @@
 -- The output of `states`: the line of the verdict, and for each process that has not ended a line, with one for each of its threads that has
--- not ended below it: the values of variables, mutexes, semaphores and keys, and what is registered.
+-- not ended below it: the values of variables, mutexes, semaphores, keys and once controls, and what is registered.
 use Rattle.std.specs.Prelude.{ℕ, Bool, true, false, if◌then◌else◌, List, [], ◌∷◌, ◌++◌, map, flat_map, zip, Option, Some, None, nat_eq, codes, decimal}
 use Rattle.std.specs.List.{range_with_len}
 use Rattle.std.specs.Option.{option_map_or}
@@ -9,6 +9,8 @@ use Rattle.pct_model.specs.declared.limits.TheConstants.{MAX_KEYS}
 use Rattle.pct_model.specs.declared.process.ForkHandlers.{ForkHandlers}
 use Rattle.pct_model.specs.declared.schedule.Config.{Config}
 use Rattle.pct_model.specs.declared.script.Script.{Script}
+use Rattle.pct_model.specs.declared.state.OnceState.{OnceState}
+use Rattle.pct_model.specs.declared.state.OnceState.TheVariants.{Fresh, Busy, Done}
 use Rattle.pct_model.specs.EventTexts.{either, func_name}
 use Rattle.pct_model.specs.Keys.{Key, KeyPlace, KeyValues, key_at, number_at, value_at}
 use Rattle.pct_model.specs.Keywords.{line_text}
@@ -85,13 +87,21 @@ exit_function_phrase script f = codes "atexit" ∷ func_name script f ∷ []
 abbrev pub fork_handlers_phrase : Script → ForkHandlers → Phrase
 fork_handlers_phrase script h = codes "atfork" ∷ func_or_dash script h.prepare ∷ func_or_dash script h.parent ∷ func_or_dash script h.child ∷ []
 
--- the exit functions, newest first, and the fork handlers, in the order of their registration; before them how far the process is
-abbrev pub registered_phrases : Script → SharedState → List Phrase
-registered_phrases script s =
+-- a once control of a process with this id that is busy, and with which thread, or done; nothing for one that is fresh (XSH pthread_once)
+abbrev pub once_phrases : ℕ → List ℕ × OnceState → List Phrase
+once_phrases pid (name, Fresh) = []
+once_phrases pid (name, Busy id) = (codes "once" ∷ name ∷ codes "called" ∷ codes "by" ∷ thread_text pid id ∷ []) ∷ []
+once_phrases pid (name, Done) = (codes "once" ∷ name ∷ codes "done" ∷ []) ∷ []
+
+-- the exit functions, newest first, and the fork handlers, in the order of their registration; before them how far the process is, and
+-- after them its once controls, in the order of their declaration
+abbrev pub registered_phrases : Script → ℕ → SharedState → List Phrase
+registered_phrases script pid s =
     exit_phrases s.exit_value
     ++ restricted_phrases s.restricted
     ++ map (exit_function_phrase script) s.exit_functions
     ++ map (fork_handlers_phrase script) s.fork_handlers
+    ++ flat_map (once_phrases pid) (zip script.onces s.onces)
 
 -- ---- the text; `lines` has the numbers of the lines of the script's statements
 
@@ -99,7 +109,7 @@ registered_phrases script s =
 abbrev pub frame_phrase : Script → Frame → Phrase
 frame_phrase script frame = func_name script frame.func ∷ flat_map value_words (zip (locals_of script frame.func) frame.locals)
 
--- the fields of a process: its id, its globals, mutexes, semaphores and keys, and what is registered
+-- the fields of a process: its id, its globals, mutexes, semaphores and keys, and what is registered, with its once controls
 unfoldable pub process_fields : Script → ListedProcess → List (List Phrase)
 process_fields script p =
     word_field (decimal p.pid)
@@ -107,7 +117,7 @@ process_fields script p =
     ∷ mutex_phrases p.pid script.mutexes p.shared.owners
     ∷ value_phrases (map (λ d. d.name) script.sems) p.shared.counts
     ∷ key_phrases script p.shared.keys
-    ∷ registered_phrases script p.shared
+    ∷ registered_phrases script p.pid p.shared
     ∷ []
 
 module _ (lines : List (List ℕ)) (script : Script) where

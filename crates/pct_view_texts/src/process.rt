@@ -49,7 +49,7 @@ pub(crate) fn push_process_line(
     )?;
     push_semaphores(alloc, text, script.sems.as_slice(), state.counts.as_slice())?;
     push_keys(alloc, text, script, &state.keys)?;
-    push_registered(alloc, text, script, state)?;
+    push_registered(alloc, text, script, pid, state)?;
     text.push(b"\n")
 }
 

@@ -1,44 +1,52 @@
-//! What a process has registered with atexit and pthread_atfork, and how far it is.
+//! What a process has registered with atexit and pthread_atfork, how far it is, and its once controls.
 
-ghost use Rattle.std.specs.Prelude.{◌≡◌, ◌∷◌, ◌++◌, map, flat_map, codes};
+ghost use Rattle.std.specs.Prelude.{◌≡◌, ◌∷◌, ◌++◌, map, flat_map, zip, codes};
 ghost use Rattle.pct_view_texts.specs.Fields.{after_commas, field_text, phrase_text};
-ghost use Rattle.pct_view_texts.specs.States.{exit_function_phrase, exit_phrases, fork_handlers_phrase, registered_phrases, restricted_phrases};
+ghost use Rattle.pct_view_texts.specs.States.{exit_function_phrase, exit_phrases, fork_handlers_phrase, once_phrases, registered_phrases, restricted_phrases};
 ghost use Rattle.pct_view_texts.specs.TextBuffers.{Appends};
 
 use crate::TextBuffer;
 use crate::phrases::{push_phrase, push_phrases};
 use crate::specific::func_or_dash;
 use pct_io::{Field, NoMemory};
-use pct_model::{ForkHandlers, Script};
+use pct_model::{ForkHandlers, Name, OnceState, Script};
 use pct_process::{ExitFunctions, ProcessState};
 use pct_report::names::func;
 use std::alloc::Global;
 
-/// Appends a tab and the field of what a process has registered.
+/// Appends a tab and the field of what a process with this id has registered, and of its once controls.
 pub(crate) fn push_registered(
     alloc: Global,
     text: &mut TextBuffer,
     script: &Script,
+    pid: u32,
     state: &ProcessState,
 ) -> Result<(), NoMemory>
-    ensures { Appends text.old text.new (9 ∷ field_text (registered_phrases script.now state.now.shared)) result }
+    ensures { Appends text.old text.new (9 ∷ field_text (registered_phrases script.now pid state.now.shared)) result }
 {
     let mut phrases = TextBuffer::new(alloc);
-    push_each_registered(&mut phrases, script, state)?;
+    push_each_registered(&mut phrases, script, pid, state)?;
     push_phrases(text, &phrases)
 }
 
-// Appends how far a process is and what it has registered, each after a comma.
+// Appends how far a process with this id is, what it has registered, and its once controls, each after a comma.
 fn push_each_registered(
     phrases: &mut TextBuffer,
     script: &Script,
+    pid: u32,
     state: &ProcessState,
 ) -> Result<(), NoMemory>
-    ensures { Appends phrases.old phrases.new (after_commas (registered_phrases script.now state.now.shared)) result }
+    ensures { Appends phrases.old phrases.new (after_commas (registered_phrases script.now pid state.now.shared)) result }
 {
     push_progress(phrases, state.exit_value, state.restricted)?;
     push_exit_functions(phrases, script, &state.exit_functions)?;
-    push_fork_handlers(phrases, script, state.fork_handlers.as_slice())
+    push_fork_handlers(phrases, script, state.fork_handlers.as_slice())?;
+    push_onces(
+        phrases,
+        pid,
+        script.onces.as_slice(),
+        state.onces.as_slice(),
+    )
 }
 
 // Appends the value with which exit began, and whether the process is restricted, each after a comma.
@@ -106,4 +114,51 @@ fn push_registration(
             func_or_dash(script, handlers.child),
         ],
     )
+}
+
+// Appends each once control of a process with this id, with these names and states, that is busy or done, after a comma.
+fn push_onces(
+    phrases: &mut TextBuffer,
+    pid: u32,
+    names: &[Name],
+    states: &[OnceState],
+) -> Result<(), NoMemory>
+    ensures { Appends phrases.old phrases.new (after_commas (flat_map (once_phrases pid) (zip names.now states.now))) result }
+{
+    for (name, state) in names.iter().zip(states) {
+        push_once(phrases, pid, name.as_bytes(), *state)?;
+    }
+    Ok(())
+}
+
+// Appends a once control with this name and state, if it is busy or done, after a comma.
+#[tactic(auto, unfolding(pct_model::specs::Report::thread_text))]
+fn push_once(
+    phrases: &mut TextBuffer,
+    pid: u32,
+    name: &[u8],
+    state: OnceState,
+) -> Result<(), NoMemory>
+    ensures { Appends phrases.old phrases.new (after_commas (once_phrases pid (name.now, state))) result }
+{
+    match state {
+        OnceState::Fresh => Ok(()),
+        OnceState::Busy(id) => push_phrase(
+            phrases,
+            &[
+                Field::Text(b"once"),
+                Field::Text(name),
+                Field::Text(b"called by"),
+                Field::Dotted(pid, id),
+            ],
+        ),
+        OnceState::Done => push_phrase(
+            phrases,
+            &[
+                Field::Text(b"once"),
+                Field::Text(name),
+                Field::Text(b"done"),
+            ],
+        ),
+    }
 }

@@ -12,7 +12,7 @@ use crate::position::is_timed_at;
 use crate::status::push_status;
 use pct_io::{Field, NoMemory};
 use pct_model::{Script, Status};
-use pct_report::names::{cond, mutex, sem};
+use pct_report::names::{cond, mutex, once, sem};
 use pct_views::{ThreadView, Wait};
 
 /// Appends the status of a thread, and what it waits for, if it waits.
@@ -63,6 +63,11 @@ fn push_wait(text: &mut TextBuffer, script: &Script, pid: u32, wait: Wait) -> Re
             mutex(script, m),
             Field::Dotted(pid, owner),
         ),
+        Wait::Once { once: o, caller } => push_once_wait(
+            text,
+            once(script, o),
+            Field::Dotted(pid, caller),
+        ),
         Wait::Thread(id) => push_wait_for(text, b"thread", Field::Dotted(pid, id)),
         Wait::Process(child) => push_wait_for(text, b"process", Field::Number(child)),
         Wait::Semaphore(index) => push_wait_for(text, b"semaphore", sem(script, index)),
@@ -88,6 +93,15 @@ fn push_condition_wait(text: &mut TextBuffer, name: Field) -> Result<(), NoMemor
         Field::Text(b"variable"),
         name,
     ])
+}
+
+// Appends that a thread waits for a once control, and who called its init routine.
+fn push_once_wait(text: &mut TextBuffer, name: Field, caller: Field) -> Result<(), NoMemory>
+    ensures { Appends text.old text.new (phrase_text (waits_for (codes "once" ∷ codes "control" ∷ word_text name.entry ∷ [])) ++ codes ", " ++ phrase_text (codes "called" ∷ codes "by" ∷ word_text caller.entry ∷ [])) result }
+{
+    push_wait_for(text, b"once control", name)?;
+    text.push(b", ")?;
+    text.push_words(&[Field::Text(b"called by"), caller])
 }
 
 // Appends that a thread waits for a mutex, and who holds it.

@@ -10,8 +10,10 @@ pub over_unless : (test : Bool) (w : Wait) → cond (not test) None (Some w) ≡
 over_unless true w = refl
 over_unless false w = refl
 
--- a thread without a choice waits for nothing at another statement than pthread_mutex_lock
-pub nothing_elsewhere : (shared : SharedState) (environment : Environment) (frame : Frame) (s : Stmt) → ((m : ℕ) → s ≡ statement.Lock m → ⊥) → wait_at shared environment (StatementIn frame s) ≡ None
+-- a thread without a choice waits for nothing at another statement than pthread_mutex_lock and pthread_once
+pub nothing_elsewhere : (shared : SharedState) (environment : Environment) (frame : Frame) (s : Stmt) → ((m : ℕ) → s ≡ statement.Lock m → ⊥) → ((o f : ℕ) → s ≡ statement.CallOnce o f → ⊥)
+    → wait_at shared environment (StatementIn frame s) ≡ None
 unfolding wait_at
-nothing_elsewhere shared environment frame (statement.Lock m) other = absurd (other m refl)
-nothing_elsewhere shared environment frame _ other = refl
+nothing_elsewhere shared environment frame (statement.Lock m) no_lock no_once = absurd (no_lock m refl)
+nothing_elsewhere shared environment frame (statement.CallOnce o f) no_lock no_once = absurd (no_once o f refl)
+nothing_elsewhere shared environment frame _ no_lock no_once = refl

@@ -10,13 +10,14 @@ ghost use Rattle.pct_process.specs.FamilyViews.{other_processes};
 ghost use Rattle.pct_process.specs.ProcessViews.{thread_on_slot};
 ghost use Rattle.pct_transitions.specs.Positions.{next_at};
 ghost use Rattle.pct_transitions.specs.ProcessSteps.{with_data};
-ghost use Rattle.pct_view_laws.specs.Waits.{mutex_wait, wait_at, wait_by};
+ghost use Rattle.pct_model.specs.OnceCalls.{once_at};
+ghost use Rattle.pct_view_laws.specs.Waits.{mutex_wait, once_wait, wait_at, wait_by};
 
-use pct_model::{Status, Stmt};
+use pct_model::{OnceState, Status, Stmt};
 use pct_process::ProcessState;
 use pct_transitions::{
     At, Surroundings, count_in, has_choice, has_ended, is_unowned, may_pass_point, next_on,
-    record_of,
+    once_in, record_of,
 };
 use pct_view_laws::Wait;
 
@@ -62,8 +63,19 @@ fn wait_at(state: &ProcessState, next: Option<At>) -> Option<Wait>
         None => None,
         Some(at) => match at.statement {
             Stmt::Lock(mutex) => mutex_wait(state, *mutex),
+            Stmt::CallOnce { once, .. } => once_wait(state, *once),
             _ => None,
         },
+    }
+}
+
+// What a thread that calls pthread_once on a control waits for.
+fn once_wait(state: &ProcessState, once: u32) -> Option<Wait>
+    ensures { (environment : Environment) → result ≡ once_wait state.now.shared environment once (once_at state.now.shared.onces once) }
+{
+    match once_in(state, once) {
+        OnceState::Busy(caller) => Some(Wait::Once { once, caller }),
+        OnceState::Fresh | OnceState::Done => None,
     }
 }
 

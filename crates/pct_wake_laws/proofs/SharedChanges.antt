@@ -1,11 +1,12 @@
 -- What a step makes of the state that its process shares; that it takes a semaphore only where its count is above 0, and that the time of a
 -- wait for one expires only where it is 0.
-use Rattle.pct_names.proofs.Names.{◌++◌, [], acts_on_request, acts_or, Alt, and_from, ap, arith, body_at, Bool, cond, Config, Dest, Entry}
-use Rattle.pct_names.proofs.Names.{Environment, environment_of, false, ForkHandlers, Frame, goes_on, length, List, list_all}
-use Rattle.pct_names.proofs.Names.{MAX_FORK_HANDLERS, may_register, nat_eq, nat_lt, next_of, NextStatement, None, NoStatement, Option}
-use Rattle.pct_names.proofs.Names.{Process, refl, registers_fork, registers_if, Run, run, runs, Script, shared_after, shared_moved}
-use Rattle.pct_names.proofs.Names.{SharedState, slice_index, Some, StatementIn, Status, Stmt, stop_at, stops_or, subst, sym, Thread}
-use Rattle.pct_names.proofs.Names.{Transition, transition_at, transition_by, true, What, Why, ℕ, ◌∙◌, ◌∷◌, ◌≡◌, ◌≤◌}
+use Rattle.pct_names.proofs.Names.{◌++◌, [], abandoned, acts_on_request, acts_or, Alt, and_from, ap, arith, body_at, Bool, Busy, cond}
+use Rattle.pct_names.proofs.Names.{Config, Dest, Entry, Environment, environment_of, false, ForkHandlers, Frame, goes_on, length, List}
+use Rattle.pct_names.proofs.Names.{list_all, map, MAX_FORK_HANDLERS, may_register, nat_eq, nat_lt, next_of, NextStatement, None}
+use Rattle.pct_names.proofs.Names.{NoStatement, onces_after, OnceState, Option, Process, refl, registers_fork, registers_if, Run, run, runs}
+use Rattle.pct_names.proofs.Names.{Script, shared_after, shared_moved, SharedState, slice_index, Some, StatementIn, Status, Stmt, stop_at}
+use Rattle.pct_names.proofs.Names.{stops_or, subst, sym, Thread, Transition, transition_at, transition_by, true, What, Why, ℕ, ◌∙◌, ◌∷◌}
+use Rattle.pct_names.proofs.Names.{◌≡◌, ◌≤◌}
 use Rattle.std.proofs.Common.{append-nil, eq-eqb, true≢false}
 use Rattle.std.proofs.lemmas.Bool.{ltb-false}
 use Rattle.pct_model.specs.declared.event.Caller.TheVariants as caller
@@ -20,9 +21,12 @@ use Rattle.pct_laws.specs.ThreadSteps.{ThreadStep}
 use Rattle.pct_laws.specs.AfterAll.{after_all}
 use Rattle.pct_laws.specs.CancelLaw.{is_running}
 use Rattle.pct_laws.specs.SharedLaw.{exits_after, new_exits, new_fork_handlers, is_above_0, takes_above_0, is_at_0, times_out_at_0}
-use Rattle.pct_laws.specs.SharedLaw.{ChangesShared, SharedLaw}
+use Rattle.pct_laws.specs.SharedLaw.{onces_after as reported_onces, ChangesShared, SharedLaw}
+use Rattle.pct_laws.specs.OnceControls.{given_up}
 use Rattle.pct_transition_cases.proofs.TransitionCases.{TransitionCase, exit_registered, exit_function_called, fork_registered, sem_taken}
-use Rattle.pct_transition_cases.proofs.TransitionCases.{timed_sem_taken, sem_wait_timed_out, fork_handler_called}
+use Rattle.pct_transition_cases.proofs.TransitionCases.{timed_sem_taken, sem_wait_timed_out, fork_handler_called, start_returned, canceled}
+use Rattle.pct_transition_cases.proofs.TransitionCases.{canceled_at_point, canceled_in_join, canceled_in_sem_wait, canceled_in_waitpid}
+use Rattle.pct_transition_cases.proofs.TransitionCases.{ended_in_wait, exit_called}
 use Rattle.pct_thread_invariants.proofs.lift.ChangedThreads.{changed_shared}
 use Rattle.pct_thread_invariants.proofs.lift.EveryProcess.{moves_of_run}
 use Rattle.pct_thread_invariants.proofs.lift.HandlerEvents.{of_each_phase}
@@ -107,27 +111,54 @@ newest_taken : (f : ℕ) (functions : List ℕ) → without_first functions ≡ 
 newest_taken f [] = refl
 newest_taken f (g ∷ functions) = refl
 
+-- the once controls as their thread begins to end
+all_given_up : (tid : ℕ) (onces : List OnceState) → map (abandoned tid) onces ≡ map (given_up tid) onces
+all_given_up tid onces = λ i. map (λ (state : OnceState). one state i) onces
+  where
+    one : (state : OnceState) → abandoned tid state ≡ given_up tid state
+    one (Busy id) = refl
+    one _ = refl
+
 module _ {passes : ℕ} {body : List Stmt} {shared : SharedState} {t : Thread} {environment : Environment} where
-  case_changes : {next : NextStatement} {s : Status} {o : Transition} → TransitionCase passes body shared t environment true next s o → Agrees next s o → ChangesShared t.id o.events s next shared (shared_moved o shared)
-  unfolding shared_after
-  case_changes (exit_registered frame result f may) agree = record { owners = refl; counts = refl; exit_functions = refl; fork_handlers = sym (append-nil shared.fork_handlers); exit_value = refl; restricted = refl }
-  case_changes (fork_registered frame result handlers room) agree = record { owners = refl; counts = refl; exit_functions = refl; fork_handlers = refl; exit_value = refl; restricted = refl }
+  -- the once controls change by the events that say so
+  case_onces : {next : NextStatement} {s : Status} {o : Transition} → TransitionCase passes body shared t environment true next s o
+      → (shared_moved t.id o shared).onces ≡ after_all (reported_onces t.id) o.events shared.onces
+  unfolding shared_after onces_after
+  case_onces (start_returned frame s v returns is) = all_given_up t.id shared.onces
+  case_onces (canceled next delivered may) = all_given_up t.id shared.onces
+  case_onces (canceled_at_point next index delivered) = all_given_up t.id shared.onces
+  case_onces (canceled_in_join next id delivered) = all_given_up t.id shared.onces
+  case_onces (canceled_in_sem_wait next sem delivered) = all_given_up t.id shared.onces
+  case_onces (canceled_in_waitpid next pid delivered) = all_given_up t.id shared.onces
+  case_onces (ended_in_wait next c m free) = all_given_up t.id shared.onces
+  case_onces (exit_called frame v begun) = all_given_up t.id shared.onces
+  case_onces (fork_handler_called next at call is) =
+      of_each_phase (λ (w : What). shared.onces ≡ after_all (reported_onces t.id) (w ∷ []) shared.onces) call.func refl refl refl at.phase
+  case_onces _ = refl
+
+  -- and so does all that the threads share
+  case_changes : {next : NextStatement} {s : Status} {o : Transition} → TransitionCase passes body shared t environment true next s o → Agrees next s o → ChangesShared t.id o.events s next shared (shared_moved t.id o shared)
+  unfolding shared_after onces_after
+  case_changes (exit_registered frame result f may) agree = record { owners = refl; counts = refl; onces = refl; exit_functions = refl; fork_handlers = sym (append-nil shared.fork_handlers); exit_value = refl; restricted = refl }
+  case_changes (fork_registered frame result handlers room) agree = record { owners = refl; counts = refl; onces = refl; exit_functions = refl; fork_handlers = refl; exit_value = refl; restricted = refl }
   case_changes (exit_function_called next f functions is) agree = record {
     owners = refl;
     counts = refl;
+    onces = refl;
     exit_functions = newest_taken f shared.exit_functions;
     fork_handlers = sym (append-nil shared.fork_handlers);
     exit_value = refl;
     restricted = refl;
   }
   case_changes {s = s} {o = o} (fork_handler_called next at call is) agree =
-      of_each_phase (λ (w : What). ChangesShared t.id (w ∷ []) s next shared (shared_moved o shared)) call.func
-      (record { owners = refl; counts = refl; exit_functions = refl; fork_handlers = sym (append-nil shared.fork_handlers); exit_value = refl; restricted = refl })
-      (record { owners = refl; counts = refl; exit_functions = refl; fork_handlers = sym (append-nil shared.fork_handlers); exit_value = refl; restricted = refl })
-      (record { owners = refl; counts = refl; exit_functions = refl; fork_handlers = sym (append-nil shared.fork_handlers); exit_value = refl; restricted = refl }) at.phase
-  case_changes {o = o} _ agree = record {
+      of_each_phase (λ (w : What). ChangesShared t.id (w ∷ []) s next shared (shared_moved t.id o shared)) call.func
+      (record { owners = refl; counts = refl; onces = refl; exit_functions = refl; fork_handlers = sym (append-nil shared.fork_handlers); exit_value = refl; restricted = refl })
+      (record { owners = refl; counts = refl; onces = refl; exit_functions = refl; fork_handlers = sym (append-nil shared.fork_handlers); exit_value = refl; restricted = refl })
+      (record { owners = refl; counts = refl; onces = refl; exit_functions = refl; fork_handlers = sym (append-nil shared.fork_handlers); exit_value = refl; restricted = refl }) at.phase
+  case_changes {o = o} c agree = record {
     owners = refl;
     counts = refl;
+    onces = case_onces c;
     exit_value = refl;
     restricted = refl;
     exit_functions = ap (λ (new : List ℕ). after_all exits_after o.events (new ++ shared.exit_functions)) (sym (agree refl).exits);
@@ -160,7 +191,7 @@ module _ (script : Script) (config : Config) where
       let moves : Moves script config r.world p e t = moves_of_run script config before r is e p t taken in
       let next : NextStatement = next_of script t.frames in
       subst (λ (after : SharedState). ChangesShared e.tid o.events t.status next p.shared after) (sym (changed_shared e.tid o p))
-      (subst (λ (tid : ℕ). ChangesShared tid o.events t.status next p.shared (shared_moved o p.shared)) (mover script config r.world p e t moves).number
+      (subst (λ (tid : ℕ). ChangesShared tid o.events t.status next p.shared (shared_moved tid o p.shared)) (mover script config r.world p e t moves).number
       (case_changes (case_of_step script config r.world p e t moves) (agrees config.passes (body_at script t.frames) p.shared t (environment_of config r.world p t.id) e.alt next t.status)))
 
   changes_of_run : EveryStep script config IsLawful

@@ -58,7 +58,7 @@ module _ (script : Script) (passes : ℕ) (shared : SharedState) (t : Thread) (e
     -- the owners after a transition
     pub case_fits : {frames : List Frame} {body : List Stmt} {next : NextStatement} {s : Status} {o : Transition}
         → IsPlaced script frames body next → IsSuspendedAt next s → TransitionCase passes body shared t environment true next s o
-        → OwnersFit script (shared_moved o shared).owners (λ m. after_own (owner m) (map (event_of e) (reverse o.events)) (reported m))
+        → OwnersFit script (shared_moved e.tid o shared).owners (λ m. after_own (owner m) (map (event_of e) (reverse o.events)) (reported m))
     unfolding shared_after encode syntax_of
     case_fits placed at (mutex_locked frame m free) = set_fits m (names_there script placed).0 t.id e.tid is_own
     case_fits placed at (mutex_unlocked frame m is) = set_fits m (names_there script placed).0 0 0 refl

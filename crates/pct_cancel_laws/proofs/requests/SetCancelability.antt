@@ -1,10 +1,10 @@
 -- A step leaves its thread the cancelability state and type that its events say.
-use Rattle.pct_names.proofs.Names.{ap, body_at, Bool, cond, Config, Entry, Environment, environment_of, has_valid_id, List, Mode, moved}
-use Rattle.pct_names.proofs.Names.{NextStatement, own_after, Process, refl, Run, run, Script, SharedState, Some, State, Status, Stmt}
+use Rattle.pct_names.proofs.Names.{ap, body_at, Bool, cond, Config, Entry, Environment, environment_of, false, has_valid_id, List, Mode}
+use Rattle.pct_names.proofs.Names.{moved, NextStatement, own_after, Process, refl, Run, run, Script, SharedState, Some, State, Status, Stmt}
 use Rattle.pct_names.proofs.Names.{Thread, thread_at, thread_moved, Transition, transition_by, true, What, ℕ, ◌∙◌, ◌≡◌}
 use Rattle.pct_laws.specs.AfterAll.{after_all}
 use Rattle.pct_laws.specs.CancelLaw.{mode_after, SetsCancelability, state_after}
-use Rattle.pct_transition_cases.proofs.TransitionCases.{TransitionCase, fork_handler_called}
+use Rattle.pct_transition_cases.proofs.TransitionCases.{TransitionCase, fork_handler_called, mode_set, state_set}
 use Rattle.pct_thread_invariants.proofs.lift.ChangedThreads.{named_keeps}
 use Rattle.pct_thread_invariants.proofs.lift.EveryProcess.{moves_of_run}
 use Rattle.pct_thread_invariants.proofs.lift.HandlerEvents.{of_each_phase}
@@ -25,6 +25,10 @@ module _ (passes : ℕ) (body : List Stmt) (shared : SharedState) (t : Thread) (
   case_sets : {next : NextStatement} {s : Status} {o : Transition} → TransitionCase passes body shared t environment true next s o → cancelability (moved o t) ≡ after_events o.events (cancelability t)
   unfolding thread_at own_after
   case_sets (fork_handler_called next at call is) = of_each_phase (λ (w : What). cancelability t ≡ (state_after w t.state, mode_after w t.mode)) call.func refl refl refl at.phase
+  case_sets (state_set frame true old allowed) = refl
+  case_sets (state_set frame false old allowed) = refl
+  case_sets (mode_set frame true old) = refl
+  case_sets (mode_set frame false old) = refl
   case_sets _ = refl
 
 -- ---- each step of a run

@@ -8,9 +8,10 @@ use Rattle.pct_model.specs.declared.event.What.TheVariants as what
 use Rattle.pct_model.specs.declared.state.Phase.TheVariants as phase
 use Rattle.pct_laws.specs.ForkLaw.{answer_in, calls_fork, is_handler_call, CallsHandler, EachHandler, fork_by, fork_of, ForksWithNoneLeft}
 use Rattle.pct_laws.specs.ForkLaw.{KeepsFork, left_to_call}
-use Rattle.pct_laws.specs.Kept.{is_in_fork_handler}
+use Rattle.pct_laws.specs.Kept.{is_in_fork_handler, IsSuspendedAt}
 use Rattle.pct_laws.specs.ThreadSteps.{ThreadStep}
 use Rattle.pct_transition_cases.proofs.PlacedStatements.{is_placed}
+use Rattle.pct_thread_invariants.proofs.ThreadsOfRun.{threads_kept}
 use Rattle.pct_thread_invariants.proofs.lift.ChangedThreads.{named_keeps, same_settled}
 use Rattle.pct_thread_invariants.proofs.lift.EveryProcess.{moves_of_run, process_taken}
 use Rattle.pct_thread_invariants.proofs.lift.HandlerEvents.{of_each_phase}
@@ -23,6 +24,7 @@ use Rattle.pct_creation_laws.proofs.forks.ForkSteps.{ForkStep, begins_by, fork_b
 use Rattle.pct_creation_laws.proofs.forks.ForkSteps.{goes_on_by, handler_called, HasNone, has_none}
 use Rattle.pct_creation_laws.proofs.forks.KeptForks.{fork_resumes}
 use Rattle.pct_creation_laws.proofs.forks.LeftHandlers.{first_is_left, none_is_left}
+use Rattle.pct_creation_laws.proofs.forks.ReturnedForks.{fork_ends}
 
 -- where no fork handler is called, the law asks nothing of the events
 one_quiet : (s : ThreadStep) (w : What) → is_handler_call w ≡ false → EachHandler w s
@@ -71,6 +73,12 @@ module _ (script : Script) (config : Config) where
     keeps =
         let it : HasValidId p e.tid t = mover script config r.world p e t moves in
         (forks_of_run script config before r is e.pid e.tid t (ap (option_and_then (thread_with e.tid)) (process_taken script config before r is e p t taken) ∙ it.found) it.here).keeps
+
+    -- a thread in fork is in its call
+    suspended : IsSuspendedAt (next_of script t.frames) t.status
+    suspended =
+        let it : HasValidId p e.tid t = mover script config r.world p e t moves in
+        (threads_kept script config before r is e.pid e.tid p t (process_taken script config before r is e p t taken) it.found it.here).suspended
 
     none_kept : HasNone t.status t.kept
     none_kept = has_none t.status t.frames t.kept keeps
@@ -139,6 +147,8 @@ module _ (script : Script) (config : Config) where
       called = All-from_recursion _ _ (called_by step);
       made = made_by step;
       returned = λ fork in_fork was none. returned_by step fork in_fork was (sym after_is ∙ none);
+      ends = λ in_fork quiet.
+          after_is ∙ fork_ends config.passes (body_at script t.frames) p.shared t environment e.alt (next_of script t.frames) t.status in_fork suspended taken.offered quiet none_kept;
       resumed = λ outside no_call stays.
           after_is ∙ fork_resumes config.passes p.shared t environment (is_placed script t.frames) (case_of_step script config r.world p e t moves) keeps outside no_call stays;
       kept = λ no_call no_answer quiet. elim (kept_by step no_call no_answer quiet) [

@@ -11,7 +11,7 @@ use Rattle.pct_transition_cases.proofs.TransitionCases.{TransitionCase, call_lef
 use Rattle.pct_transition_cases.proofs.TransitionCases.{canceled_in_sem_wait, canceled_in_waitpid, ended_in_wait, exit_called}
 use Rattle.pct_transition_cases.proofs.TransitionCases.{exit_function_left, fork_begun, fork_failed, fork_handler_called, fork_handler_left}
 use Rattle.pct_transition_cases.proofs.TransitionCases.{fork_returned, handler_left, last_ended, last_ended_with_keys, main_returned}
-use Rattle.pct_transition_cases.proofs.TransitionCases.{process_exited, process_forked, process_not_forked, start_returned}
+use Rattle.pct_transition_cases.proofs.TransitionCases.{process_exited, process_forked, process_not_forked, routine_left, start_returned}
 
 -- a kind of two that are not that of a fork handler
 other_kind : {k a b : FrameKind} → (k ≡ a) ⊎ (k ≡ b) → is_fork_kind a ≡ false → is_fork_kind b ≡ false → is_fork_kind k ≡ false
@@ -34,6 +34,7 @@ module _ (passes : ℕ) (shared : SharedState) (t : Thread) (environment : Envir
   fork_resumes (on_top frame below s at) (call_left _ _ v returned kinds) keeps outside other stays = nothing_kept t.kept (keeps ∙ other_kind kinds refl refl)
   fork_resumes (on_top frame below s at) (handler_left _ _ v returned kinds) keeps outside other stays = nothing_kept t.kept (keeps ∙ other_kind kinds refl refl)
   fork_resumes (on_top frame below s at) (exit_function_left _ _ v returned is) keeps outside other stays = nothing_kept t.kept (keeps ∙ ap is_fork_kind is)
+  fork_resumes (on_top frame below s at) (routine_left _ _ v o returned is) keeps outside other stays = nothing_kept t.kept (keeps ∙ ap is_fork_kind is)
   -- in fork, and at its call
   fork_resumes placed (fork_handler_called next at call is) keeps outside other stays = absurd (true≢false outside)
   fork_resumes placed (process_forked next at new prepares is) keeps outside other stays = absurd (true≢false outside)

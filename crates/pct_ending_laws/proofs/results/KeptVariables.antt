@@ -107,7 +107,7 @@ module _ (script : Script) where
     own = λ w p e t k moves have. record {
       globals =
           let o : Transition = transition_by script config w p t e.alt in
-          ap (λ (s : SharedState). length s.globals) (changed_shared e.tid o p) ∙ globals_kept o p.shared ∙ have.globals;
+          ap (λ (s : SharedState). length s.globals) (changed_shared e.tid o p) ∙ globals_kept e.tid o p.shared ∙ have.globals;
       threads = each_after script config w p e t moves (λ id u. HasVariables script u)
           (λ id u is. moved_keeps e.tid (transition_by script config w p t e.alt) u (have.threads id u is))
           (λ id new makes. record { locals = (refl, tt); values = length-replicate {A = ℕ} MAX_KEYS 0 });

@@ -9,6 +9,7 @@ use Rattle.pct_names.proofs.Names.{Prepare, Process, refl, registers_fork, regis
 use Rattle.pct_names.proofs.Names.{runs, Script, sets, SharedState, slice_index, Some, StatementIn, Status, Stmt, stop_at, stops_or, subst}
 use Rattle.pct_names.proofs.Names.{suc, sym, syntax_of, Thread, thread_at, thread_moved, Transition, transition_at, transition_by, true}
 use Rattle.pct_names.proofs.Names.{What, Why, without_first, written, ◌||◌, ℕ, ◌∙◌, ◌∷◌, ◌≡◌}
+use Rattle.pct_names.proofs.Names.{Asynchronous, Deferred, Disable, Enable, Mode, mode_number, State, state_number}
 use Rattle.std.proofs.lemmas.Bool.{cond_both, true≢false}
 use Rattle.std.proofs.lemmas.List.{drop-map}
 use Rattle.pct_model.specs.declared.event.Caller.TheVariants as caller
@@ -23,12 +24,12 @@ use Rattle.pct_model.specs.declared.transition.OwnAction.TheVariants as own_acti
 use Rattle.pct_model.specs.LineParsing.{is_empty}
 use Rattle.pct_laws.specs.CancelLaw.{acts_or_stops}
 use Rattle.pct_laws.specs.ResultLaw.{all_locals, left_of, Store, stored_at, stored_by_fork, stored_by, stored, after_stores, local_on_top}
-use Rattle.pct_laws.specs.ResultLaw.{StoresResults}
+use Rattle.pct_laws.specs.ResultLaw.{number_of_mode, number_of_state, StoresResults}
 use Rattle.pct_transition_cases.proofs.TransitionCases.{TransitionCase, Leads, Returns, past_if, by_return, by_end, rests, jumped}
 use Rattle.pct_transition_cases.proofs.TransitionCases.{main_returned, start_returned, call_left, handler_left, exit_function_left}
 use Rattle.pct_transition_cases.proofs.TransitionCases.{fork_handler_called, fork_handler_left, process_forked, process_not_forked}
 use Rattle.pct_transition_cases.proofs.TransitionCases.{fork_failed, fork_returned, canceled_after_wait, signal_handed_on}
-use Rattle.pct_transition_cases.proofs.TransitionCases.{ended_in_wait}
+use Rattle.pct_transition_cases.proofs.TransitionCases.{ended_in_wait, mode_set, routine_left, state_set}
 use Rattle.pct_transition_cases.proofs.PlacedStatements.{IsPlaced, is_placed}
 use Rattle.pct_thread_invariants.proofs.ThreadsOfRun.{threads_kept}
 use Rattle.pct_thread_invariants.proofs.lift.ChangedThreads.{either_keeps, named_keeps, changed_shared}
@@ -97,6 +98,15 @@ own_leaves (Some (own_action.BeginEnd why)) t none = emptied (all_locals t.frame
 own_leaves (Some own_action.BeginExit) t none = emptied (all_locals t.frames)
 own_leaves (Some own_action.EndLast) t none = emptied (all_locals t.frames)
 own_leaves _ t none = refl
+
+-- the numbers of states and types are those of the law
+same_state : (s : State) → state_number s ≡ number_of_state s
+same_state Enable = refl
+same_state Disable = refl
+
+same_mode : (m : Mode) → mode_number m ≡ number_of_mode m
+same_mode Deferred = refl
+same_mode Asynchronous = refl
 
 -- a transition that neither writes nor has an event
 abbrev is_nothing : Transition → Bool
@@ -189,6 +199,7 @@ module _ (passes : ℕ) (body : List Stmt) (shared : SharedState) (t : Thread) (
   case_stores next (call_left frame s v returns is) other nothing = sym (returns_nothing returns [])
   case_stores next (handler_left frame s v returns is) other nothing = sym (returns_nothing returns [])
   case_stores next (exit_function_left frame s v returns is) other nothing = sym (returns_nothing returns [])
+  case_stores next (routine_left frame s v o returns is) other nothing = sym (returns_nothing returns _)
   case_stores next (fork_handler_left frame s v at returns is kept) other nothing = sym (returns_nothing returns [])
   case_stores next (fork_handler_called _ at call is) other nothing = absurd (true≢false other)
   case_stores next (process_forked _ at new prepares is) other nothing = absurd (true≢false other)
@@ -198,6 +209,8 @@ module _ (passes : ℕ) (body : List Stmt) (shared : SharedState) (t : Thread) (
   case_stores (StatementIn frame s) (canceled_after_wait _ c m why in_wait asked) other nothing = sym (leaves_nothing frame s c m why [])
   case_stores (StatementIn frame s) (signal_handed_on _ c m u asked among) other nothing = sym (leaves_nothing frame s c m cause.Signalled (what.HandedOn c u ∷ []))
   case_stores (StatementIn frame s) (ended_in_wait _ c m free) other nothing = sym (ends_nothing frame s c m)
+  case_stores next (state_set frame enable old allowed) other nothing = ap (λ (n : ℕ). (old, n) ∷ []) (same_state t.state)
+  case_stores next (mode_set frame asynchronous old) other nothing = ap (λ (n : ℕ). (old, n) ∷ []) (same_mode t.mode)
   case_stores (StatementIn frame s) _ other nothing = refl
 
   -- ---- a thread in fork
@@ -326,7 +339,8 @@ module _ (script : Script) (config : Config) where
     global_after : (i : ℕ)
         → slice_index (step_of script config r p e t).process_after.shared.globals i ≡ after_stores (destination.Global i) its (slice_index p.shared.globals i)
     global_after i =
-        ap (λ (s : SharedState). slice_index s.globals i) (changed_shared e.tid o p) ∙ globals_after script o p.shared in_variables have.globals i
+        ap (λ (s : SharedState). slice_index s.globals i) (changed_shared e.tid o p)
+        ∙ globals_after script e.tid o p.shared in_variables have.globals i
         ∙ ap (λ (stores : List Store). after_stores (destination.Global i) stores (slice_index p.shared.globals i)) stores_are
 
     -- a step that stores a number keeps the frames of its thread

@@ -73,9 +73,9 @@ module _ (script : Script) where
   global_with ((_, v) ∷ later) globals are same i = global_with later globals are.1 same i
 
   -- the globals after a transition
-  pub globals_after : (o : Transition) (s : SharedState) → InVariables o.writes → length s.globals ≡ length script.globals → (i : ℕ)
-      → slice_index (shared_moved o s).globals i ≡ after_stores (destination.Global i) o.writes (slice_index s.globals i)
-  globals_after o s are same i =
+  pub globals_after : (tid : ℕ) (o : Transition) (s : SharedState) → InVariables o.writes → length s.globals ≡ length script.globals
+      → (i : ℕ) → slice_index (shared_moved tid o s).globals i ≡ after_stores (destination.Global i) o.writes (slice_index s.globals i)
+  globals_after tid o s are same i =
       ap (λ (globals : List ℕ). slice_index globals i) (shared_keeps o.shared _) ∙ global_with o.writes s.globals are same i
 
   -- ---- locals
@@ -101,5 +101,5 @@ length_with ((destination.Global j, v) ∷ later) globals = length_with later (s
 length_with ((_, v) ∷ later) globals = length_with later globals
 
 -- a transition keeps the number of globals
-pub globals_kept : (o : Transition) (s : SharedState) → length (shared_moved o s).globals ≡ length s.globals
-globals_kept o s = ap (λ (globals : List ℕ). length globals) (shared_keeps o.shared _) ∙ length_with o.writes s.globals
+pub globals_kept : (tid : ℕ) (o : Transition) (s : SharedState) → length (shared_moved tid o s).globals ≡ length s.globals
+globals_kept tid o s = ap (λ (globals : List ℕ). length globals) (shared_keeps o.shared _) ∙ length_with o.writes s.globals

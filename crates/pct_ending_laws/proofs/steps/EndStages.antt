@@ -7,7 +7,8 @@ use Rattle.pct_names.proofs.Names.{NamedAction, nat_eq, nat_le, next_of, NextSta
 use Rattle.pct_names.proofs.Names.{option_and_then, option_map, option_map_or, or_left, or_right, OwnAction, Process, range_with_len}
 use Rattle.pct_names.proofs.Names.{Reason, refl, Run, run, Script, SharedState, slice_get, slice_get-map, Some, StatementIn, Status, Stmt}
 use Rattle.pct_names.proofs.Names.{subst, suc, sym, Thread, thread_moved, thread_with, Transition, transition_at, transition_by, true}
-use Rattle.pct_names.proofs.Names.{unwrap_or, unwrap_or-slice_get, value_at, was_reclaimed, What, with_pass, ◌||◌, ℕ, ◌∙◌, ◌∷◌, ◌≡◌}
+use Rattle.pct_names.proofs.Names.{unwrap_or, unwrap_or-slice_get, value_at, value_of, was_reclaimed, What, with_pass, ◌||◌, ℕ, ◌∙◌, ◌∷◌}
+use Rattle.pct_names.proofs.Names.{◌≡◌}
 use Rattle.std.proofs.Common.{eq-eqb}
 use Rattle.std.proofs.lemmas.Bool.{eq-eqb, lt-ltb, le-leb}
 use Rattle.pct_model.specs.declared.event.What.TheVariants as what
@@ -22,6 +23,7 @@ use Rattle.pct_laws.specs.ThreadSteps.{ThreadStep}
 use Rattle.pct_laws.specs.ThreadSummary.{ThreadSummary}
 use Rattle.pct_transition_cases.proofs.TransitionCases.{TransitionCase, fork_handler_called, handler_run, destructor_called, pass_begun}
 use Rattle.pct_transition_cases.proofs.TransitionCases.{thread_ended, thread_ended_with_keys, last_ended, last_ended_with_keys}
+use Rattle.pct_transition_cases.proofs.TransitionCases.{main_returned, process_exited}
 use Rattle.pct_thread_invariants.proofs.ThreadsOfRun.{threads_fit}
 use Rattle.pct_thread_invariants.proofs.lift.EveryProcess.{process_taken, moves_of_run}
 use Rattle.pct_thread_invariants.proofs.lift.EveryThread.{of_made_thread}
@@ -172,6 +174,13 @@ module _ (passes : ℕ) (step : ThreadStep) (environment : Environment) (frames 
   abbrev end : What
   end = what.EndedWith (end_value t.reason)
 
+  -- a running thread may begin an exit, and so may one that ends
+  may_exit : (events : List What) → t.status ≡ status.Running → (not (is_status_ending t.status) || list_any reports_end events) ≡ true
+  may_exit events is = or_left (not (is_status_ending t.status)) _ (ap (λ (st : Status). not (is_status_ending st)) is)
+
+  exits_at_end : ((not (is_status_ending t.status) || true) && true) ≡ true
+  exits_at_end = and_from _ _ (or_right (not (is_status_ending t.status)) true refl) refl
+
   -- each event of a transition may come in its step
   case_begins : {body : List Stmt} {next : NextStatement} {s : Status} {o : Transition} → t.status ≡ s → (environment.is_last ≡ true → s ≡ status.Ending → exits_if_ends o.events ≡ true) → (o.own ≡ Some own_action.BeginPass → o.named ≡ None → step.after.specific ≡ with_pass t.specific)
       → TransitionCase passes body p.shared t environment true next s o → each_may_begin passes (step_with o.events) ≡ true
@@ -188,11 +197,13 @@ module _ (passes : ℕ) (step : ThreadStep) (environment : Environment) (frames 
       (and_from _ _ (ends_with (what.Leftover left ∷ end ∷ []) is none (is_pass_over refl) (or_right (nat_eq due 0) _ (le-leb passes t.pass limit)) (or_right (nat_eq due 0) _ (or_left (nat_eq left due) _ (eq-eqb left due all))) (λ is_last. absurd (false≢true (alone is_last refl)))) refl)
   case_begins is alone pass (last_ended next none is_last nothing_due is_pass_over) =
       let nothing : nat_eq due 0 ≡ true = eq-eqb due 0 nothing_due in
-      and_from _ _ (ends_with (end ∷ what.ExitBegun 0 ∷ []) is none (is_pass_over refl) (or_left (nat_eq due 0) _ nothing) (or_left (nat_eq due 0) _ nothing) (λ is_last. refl)) refl
+      and_from _ _ (ends_with (end ∷ what.ExitBegun 0 ∷ []) is none (is_pass_over refl) (or_left (nat_eq due 0) _ nothing) (or_left (nat_eq due 0) _ nothing) (λ is_last. refl)) exits_at_end
   case_begins is alone pass (last_ended_with_keys next left none is_last some limit all is_pass_over) =
       and_from _ _ (and_from _ _ (eq-eqb left due all) (lt-ltb 0 left some))
-      (and_from _ _ (ends_with (what.Leftover left ∷ end ∷ what.ExitBegun 0 ∷ []) is none (is_pass_over refl) (or_right (nat_eq due 0) _ (le-leb passes t.pass limit)) (or_right (nat_eq due 0) _ (or_left (nat_eq left due) _ (eq-eqb left due all))) (λ is_last. refl)) refl)
+      (and_from _ _ (ends_with (what.Leftover left ∷ end ∷ what.ExitBegun 0 ∷ []) is none (is_pass_over refl) (or_right (nat_eq due 0) _ (le-leb passes t.pass limit)) (or_right (nat_eq due 0) _ (or_left (nat_eq left due) _ (eq-eqb left due all))) (λ is_last. refl)) exits_at_end)
   case_begins is alone pass (fork_handler_called next at call handler) = of_each_phase (λ (w : What). each_may_begin passes (step_with (w ∷ [])) ≡ true) call.func refl refl refl at.phase
+  case_begins is alone pass (main_returned frame s v returned kind once) = and_from _ _ (may_exit (what.ExitBegun v ∷ []) is) refl
+  case_begins is alone pass (process_exited frame v once) = and_from _ _ (may_exit (what.ExitBegun (value_of p.shared.globals frame v) ∷ []) is) refl
   case_begins is alone pass _ = refl
 
 -- ---- each step of a run

@@ -15,10 +15,10 @@ use Rattle.pct_thread_invariants.proofs.lift.TakenSteps.{IsTaken}
 use Rattle.pct_thread_invariants.proofs.lift.ThreadsAfter.{Moves}
 use Rattle.pct_thread_invariants.proofs.lift.MovedThreads.{EveryStep, step_of, case_of_step, every_step}
 
-module _ (script : Script) (passes : ℕ) (body : List Stmt) (shared : SharedState) (t : Thread) (environment : Environment) (kept : KeysKept script shared.keys) (place : ℕ) where
+module _ (script : Script) (passes tid : ℕ) (body : List Stmt) (shared : SharedState) (t : Thread) (environment : Environment) (kept : KeysKept script shared.keys) (place : ℕ) where
   -- the key on the place after a transition
   case_changes : {next : NextStatement} {s : Status} {o : Transition} → TransitionCase passes body shared t environment true next s o
-      → key_at (shared_moved o shared).keys place ≡ after_all (key_left next place) o.events (key_at shared.keys place)
+      → key_at (shared_moved tid o shared).keys place ≡ after_all (key_left next place) o.events (key_at shared.keys place)
   unfolding shared_after key_with
   case_changes (key_made frame result key destructor k among) = key_made_at shared.keys (key_place k) k destructor place (new_place_within script shared.keys kept k (among refl))
   case_changes (key_deleted frame key some) =
@@ -39,7 +39,7 @@ module _ (script : Script) (config : Config) where
       let moves : Moves script config r.world p e t = moves_of_run script config before r is e p t taken in
       let kept : KeysKept script p.shared.keys = (keys_of_run script config before r is e.pid p (process_taken script config before r is e p t taken)).keys in
       ap (λ (after : SharedState). key_at after.keys place) (changed_shared e.tid o p)
-      ∙ case_changes script config.passes (body_at script t.frames) p.shared t (environment_of config r.world p t.id) kept place (case_of_step script config r.world p e t moves)
+      ∙ case_changes script config.passes e.tid (body_at script t.frames) p.shared t (environment_of config r.world p t.id) kept place (case_of_step script config r.world p e t moves)
 
   -- the key on each place after a step is what its events leave
   pub changes_keys_of_run : EveryStep script config (ChangesKeys script)

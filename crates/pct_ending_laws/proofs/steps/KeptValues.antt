@@ -3,10 +3,11 @@
 use Rattle.pct_names.proofs.Names.{ap, Bool, cond, Config, Entry, Environment, eqb-false, false, key_place, KeyValues, List, list_any}
 use Rattle.pct_names.proofs.Names.{nat_eq, next_of, NextStatement, Process, refl, Run, run, Script, SharedState, slice_get, Some, Status}
 use Rattle.pct_names.proofs.Names.{Stmt, sym, Thread, thread_moved, Transition, transition_by, true, value_at, value_of, ℕ, ◌∙◌, ◌≡◌}
-use Rattle.pct_names.proofs.Names.{◌≢◌}
+use Rattle.pct_names.proofs.Names.{◌&&◌, not, ◌≢◌}
 use Rattle.std.proofs.Common.{get_or-set_other}
 use Rattle.std.proofs.Math.Bool.{or-false}
 use Rattle.std.proofs.lemmas.Bool.{true≢false}
+use Rattle.pct_laws.specs.CancelLaw.{acts_or_stops, is_running}
 use Rattle.pct_laws.specs.Ends.{changes_value, changes_pass, sets_value, KeepsValues}
 use Rattle.pct_transition_cases.proofs.TransitionCases.{TransitionCase, key_deleted, specific_set, destructor_called, pass_begun}
 use Rattle.pct_thread_invariants.proofs.keys.KeptKeys.{own_data, named_data}
@@ -27,7 +28,8 @@ module _ (place : ℕ) where
   module _ {passes : ℕ} {shared : SharedState} {t : Thread} {environment : Environment} {body : List Stmt} where
     -- where no event changes the value, and the statement does not set it, it stays
     case_value : {next : NextStatement} {s : Status} {o : Transition} → TransitionCase passes body shared t environment true next s o
-        → list_any (changes_value place) o.events ≡ false → sets_value shared.globals place next ≡ false → (own : KeyValues) → value_at place (named_data o.named (own_data o.own own)) ≡ value_at place own
+        → list_any (changes_value place) o.events ≡ false → (is_running s && not (acts_or_stops o.events) && sets_value shared.globals place next) ≡ false
+        → (own : KeyValues) → value_at place (named_data o.named (own_data o.own own)) ≡ value_at place own
     case_value (specific_set frame key v named) none unset own = get_or-set_other own.values (key_place (value_of shared.globals frame key)) place (value_of shared.globals frame v) 0 (elsewhere (value_of shared.globals frame key) unset)
     case_value (key_deleted frame key named) none unset own = let k : ℕ = value_of shared.globals frame key in get_or-set_other own.values (key_place k) place 0 0 (elsewhere k (sym (or-false _) ∙ none))
     case_value (destructor_called next k f key no_handlers is named among) none unset own = get_or-set_other own.values (key_place k) place 0 0 (elsewhere k (sym (or-false _) ∙ none))

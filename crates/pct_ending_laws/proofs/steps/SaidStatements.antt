@@ -1,16 +1,17 @@
 -- A running thread makes the events of its next statement, acts upon a request, or its statement is a stop.
 use Rattle.pct_names.proofs.Names.{◌&&◌, [], acts_on_request, acts_or, adds, Alt, and_from, ap, begins_fork, begins_join, begins_sem_wait}
-use Rattle.pct_names.proofs.Names.{begins_wait, begins_waitpid, body_at, Bool, broadcasts, called_kind, calls, calls_point, choices_at}
-use Rattle.pct_names.proofs.Names.{cond, Config, creates, creates_by, creates_key, creates_key_by, deletes_key, Dest, detaches, emits}
-use Rattle.pct_names.proofs.Names.{ends_block, ends_by_exit, ends_now, Entry, Environment, environment_of, exits, fails_to_create}
-use Rattle.pct_names.proofs.Names.{fails_to_create_key, false, false≢true, finds_no_child, ForkAt, Frame, FrameKind, free_ids, gets_self}
-use Rattle.pct_names.proofs.Names.{gets_specific, goes_on, is_none, is_optional, is_required, jumps, leaves_handler, length, List, list_any}
-use Rattle.pct_names.proofs.Names.{locks, MAX_FORK_HANDLERS, may_register, nat_eq, nat_lt, new_keys, new_or_go, next_of, NextStatement}
-use Rattle.pct_names.proofs.Names.{None, NoStatement, not, offers, open_of, Operand, Option, Optional, or_right, pick_or_go, point_kind}
-use Rattle.pct_names.proofs.Names.{PointKind, pops, posts, Process, pushes, refl, registers_fork, registers_if, requests, Required}
-use Rattle.pct_names.proofs.Names.{returns_by, Run, run, runs, same_choice, Script, sets, sets_mode, sets_specific, sets_state, SharedState}
-use Rattle.pct_names.proofs.Names.{signals_by, Some, StatementIn, Status, Stmt, stop_at, stops_or, subst, suc, sym, tests_cancel, Thread}
-use Rattle.pct_names.proofs.Names.{Transition, transition_at, true, unlocks, value_of, Waiter, What, Why, World, ◌||◌, ℕ, ◌∙◌, ◌∷◌, ◌≡◌}
+use Rattle.pct_names.proofs.Names.{begins_wait, begins_waitpid, body_at, Bool, broadcasts, called_kind, calls, calls_once, calls_point}
+use Rattle.pct_names.proofs.Names.{choices_at, cond, Config, creates, creates_by, creates_key, creates_key_by, deletes_key, Dest, detaches}
+use Rattle.pct_names.proofs.Names.{emits, ends_block, ends_by_exit, ends_now, Entry, Environment, environment_of, exits, fails_to_create}
+use Rattle.pct_names.proofs.Names.{fails_to_create_key, false, false≢true, finds_no_child, ForkAt, Frame, FrameKind, free_ids, Fresh}
+use Rattle.pct_names.proofs.Names.{gets_self, gets_specific, goes_on, is_none, is_optional, is_required, jumps, leaves_handler}
+use Rattle.pct_names.proofs.Names.{leaves_routine, length, List, list_any, locks, MAX_FORK_HANDLERS, may_register, nat_eq, nat_lt, new_keys}
+use Rattle.pct_names.proofs.Names.{new_or_go, next_of, NextStatement, None, NoStatement, not, offers, once_at, OnceState, open_of, Operand}
+use Rattle.pct_names.proofs.Names.{Option, Optional, or_right, pick_or_go, point_kind, PointKind, pops, posts, Process, pushes, refl}
+use Rattle.pct_names.proofs.Names.{registers_fork, registers_if, requests, Required, returns_by, Run, run, runs, same_choice, Script, sets}
+use Rattle.pct_names.proofs.Names.{sets_mode, sets_specific, sets_state, SharedState, signals_by, Some, StatementIn, Status, Stmt, stop_at}
+use Rattle.pct_names.proofs.Names.{stops_or, subst, suc, sym, tests_cancel, Thread, Transition, transition_at, true, unlocks, value_of}
+use Rattle.pct_names.proofs.Names.{Waiter, What, Why, World, ◌||◌, ℕ, ◌∙◌, ◌∷◌, ◌≡◌}
 use Rattle.std.proofs.lemmas.Bool.{true≢false}
 use Rattle.pct_model.specs.declared.event.Caller.TheVariants as caller
 use Rattle.pct_model.specs.declared.event.What.TheVariants as what
@@ -70,7 +71,7 @@ of_leaving (Some at) = refl
 of_leaving None = refl
 
 return_said : (kept : Option ForkAt) (k : FrameKind) (v : ℕ) → of_return k v (returns_by kept k v).events ≡ true
-unfolding returns_by exits ends_by_exit
+unfolding returns_by exits ends_by_exit leaves_routine
 return_said kept kind.Main v = same v
 return_said kept kind.Start v = same v
 return_said kept kind.Call v = refl
@@ -79,6 +80,7 @@ return_said kept kind.Handler v = refl
 return_said kept kind.Destructor v = refl
 return_said kept kind.ExitFn v = refl
 return_said kept kind.ForkFn v = of_leaving kept
+return_said kept (kind.OnceFn o) v = same o
 
 end_said : (body : List Stmt) (kept : Option ForkAt) (frame : Frame) (opened : Option ℕ)
     → cond (is_none opened) (of_return frame.kind 0 (ends_block opened kept body frame).events) (is_empty (ends_block opened kept body frame).events) ≡ true
@@ -138,6 +140,13 @@ module _ (slots passes : ℕ) (body : List Stmt) (shared : SharedState) (threads
   signal_said (alt.Dtor n) frame c offered = absurd (true≢false (sym offered ∙ only_picks (alt.Dtor n) refl (λ k. refl) (environment.waiters c)))
   signal_said alt.Expire frame c offered = absurd (true≢false (sym offered ∙ only_picks alt.Expire refl (λ k. refl) (environment.waiters c)))
 
+  -- pthread_once, by the state of the control
+  once_said : (frame : Frame) (o f : ℕ) (state : OnceState)
+      → IsSaid frame (statement.CallOnce o f) (calls_once (suc frame.pc) o f t.id state).events
+  unfolding calls_once
+  once_said frame o f Fresh = same o
+  once_said frame o f _ = refl
+
   -- pthread_atfork and atexit, by whether there is room
   register_fork_said : (frame : Frame) (result : Dest) (prepare parent child : Option ℕ) (room : Bool) → nat_lt (length shared.fork_handlers) MAX_FORK_HANDLERS ≡ room
       → IsSaid frame (statement.AtFork result prepare parent child)
@@ -188,6 +197,7 @@ module _ (slots passes : ℕ) (body : List Stmt) (shared : SharedState) (threads
       signal_said choice frame c (own_choices body shared t environment choice frame (statement.Signal c) refl refl none offered)
   runs_said choice frame (statement.Broadcast c) offered none = same c
   runs_said choice frame (statement.SemPost sem) offered none = same sem
+  runs_said choice frame (statement.CallOnce o f) offered none = once_said frame o f (once_at shared.onces o)
   runs_said choice frame (statement.AtFork result prepare parent child) offered none = register_fork_said frame result prepare parent child (nat_lt (length shared.fork_handlers) MAX_FORK_HANDLERS) refl
   runs_said choice frame (statement.WaitPid result pid d) offered none = waitpid_said frame result d pid (environment.family.child (value frame pid))
   runs_said choice frame (statement.AtExit result f) offered none = register_said frame result f (may_register shared) refl

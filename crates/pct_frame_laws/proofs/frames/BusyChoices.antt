@@ -1,18 +1,19 @@
 -- A thread that is in a function always has something to do: each choice that it is offered goes on, acts, or has an event.
 use Rattle.pct_names.proofs.Names.{◌&&◌, ◌++◌, [], acts_on_request, acts_or, adds, Alt, and_parts, begins_fork, begins_join}
-use Rattle.pct_names.proofs.Names.{begins_sem_wait, begins_wait, begins_waitpid, Bool, broadcasts, calls, calls_handler, calls_point, Cause}
-use Rattle.pct_names.proofs.Names.{choices_at, cond, creates, creates_by, creates_key, creates_key_by, deletes_key, Dest, detaches, emits}
-use Rattle.pct_names.proofs.Names.{ends_block, ends_by_exit, ends_join, ends_now, ends_sem_wait, Environment, exit_value_with, exits}
-use Rattle.pct_names.proofs.Names.{expires, fails_to_create, fails_to_create_key, false, false≢true, finds_no_child, ForkAt, forks_by}
-use Rattle.pct_names.proofs.Names.{Frame, FrameKind, gets_self, gets_specific, go_if, goes_on_after_handlers, goes_on_forking, HandlerCall}
-use Rattle.pct_names.proofs.Names.{hands_on, has_no_frame, is_deliverable, is_fork_kind, is_free_mutex, is_none, is_some, joins_at, jumps}
-use Rattle.pct_names.proofs.Names.{leaves_handler, leaves_wait, length, List, locks, MAX_FORK_HANDLERS, may_register, nat_eq, nat_lt}
-use Rattle.pct_names.proofs.Names.{NextStatement, None, NoStatement, not, offers, open_of, Operand, Option, Optional, Parent, passes_point}
-use Rattle.pct_names.proofs.Names.{Phase, point_kind, PointKind, pops, posts, Prepare, pushes, Reacquire, reacquires, reaps, reaps_if, refl}
-use Rattle.pct_names.proofs.Names.{registers_fork, registers_if, requests, Required, returns_by, returns_in_child, returns_in_parent, runs}
-use Rattle.pct_names.proofs.Names.{sets, sets_mode, sets_specific, sets_state, SharedState, signals_by, Some, StatementIn, Status, Stmt}
-use Rattle.pct_names.proofs.Names.{stop_at, stops_or, subst, suc, sym, tests_cancel, Thread, Transition, transition_at, true, unlocks}
-use Rattle.pct_names.proofs.Names.{waits_at, Why, ℕ, ◌∙◌, ◌∷◌, ◌≡◌}
+use Rattle.pct_names.proofs.Names.{begins_sem_wait, begins_wait, begins_waitpid, Bool, broadcasts, Busy, calls, calls_handler, calls_once}
+use Rattle.pct_names.proofs.Names.{calls_point, Cause, choices_at, cond, creates, creates_by, creates_key, creates_key_by, deletes_key}
+use Rattle.pct_names.proofs.Names.{Dest, detaches, emits, ends_block, ends_by_exit, ends_join, ends_now, ends_sem_wait, Environment}
+use Rattle.pct_names.proofs.Names.{exit_value_with, exits, expires, fails_to_create, fails_to_create_key, false, false≢true, finds_no_child}
+use Rattle.pct_names.proofs.Names.{ForkAt, forks_by, Frame, FrameKind, gets_self, gets_specific, go_if, goes_on_after_handlers}
+use Rattle.pct_names.proofs.Names.{goes_on_forking, HandlerCall, hands_on, has_no_frame, is_busy, is_deliverable, is_fork_kind}
+use Rattle.pct_names.proofs.Names.{is_free_mutex, is_none, is_some, joins_at, jumps, leaves_handler, leaves_routine, leaves_wait, length}
+use Rattle.pct_names.proofs.Names.{List, locks, MAX_FORK_HANDLERS, may_register, nat_eq, nat_lt, NextStatement, None, NoStatement, not}
+use Rattle.pct_names.proofs.Names.{offers, once_at, OnceState, open_of, Operand, Option, Optional, Parent, passes_point, Phase, point_kind}
+use Rattle.pct_names.proofs.Names.{PointKind, pops, posts, Prepare, pushes, Reacquire, reacquires, reaps, reaps_if, refl, registers_fork}
+use Rattle.pct_names.proofs.Names.{registers_if, requests, Required, returns_by, returns_in_child, returns_in_parent, runs, sets, sets_mode}
+use Rattle.pct_names.proofs.Names.{sets_specific, sets_state, SharedState, signals_by, Some, StatementIn, Status, Stmt, stop_at, stops_or}
+use Rattle.pct_names.proofs.Names.{suc, sym, tests_cancel, Thread, Transition, transition_at, true, unlocks, waits_at, Why, ℕ, ◌∙◌, ◌∷◌}
+use Rattle.pct_names.proofs.Names.{◌≡◌}
 use Rattle.std.specs.Option.{option_map_or}
 use Rattle.std.proofs.lemmas.Bool.{true≢false}
 use Rattle.pct_model.specs.declared.process.Child.{Child}
@@ -24,8 +25,9 @@ use Rattle.pct_model.specs.declared.state.Status.TheVariants as status
 use Rattle.pct_model.specs.declared.statement.Stmt.TheVariants as statement
 use Rattle.pct_model.specs.LineParsing.{is_empty}
 use Rattle.pct_laws.specs.Kept.{is_call_of, is_join, IsSuspendedAt}
+use Rattle.pct_transition_cases.proofs.CaseOfTransition.{no_stops}
 use Rattle.pct_transition_cases.proofs.OfferedChoices.{is_acting, may_act, may_create, may_expire, may_go}
-use Rattle.pct_transition_cases.proofs.OfferedChoices.{may_go_on_untimed, may_make_key, may_pick, Offered, offered_of}
+use Rattle.pct_transition_cases.proofs.OfferedChoices.{may_go_on_untimed, may_make_key, may_pick, not_busy, Offered, offered_of}
 use Rattle.pct_frame_laws.proofs.frames.FrameCases.{is_idle}
 
 -- ---- what a thread has, by its status and its next statement
@@ -62,7 +64,7 @@ module _ (passes : ℕ) (body : List Stmt) (shared : SharedState) (t : Thread) (
   leave_busy None keeps = absurd (false≢true keeps)
 
   return_busy : (kept : Option ForkAt) (k : FrameKind) (v : ℕ) → (is_fork_kind k ≡ true → is_some kept ≡ true) → DoesSome (returns_by kept k v)
-  unfolding returns_by exits ends_by_exit
+  unfolding returns_by exits ends_by_exit leaves_routine
   return_busy kept kind.ForkFn v keeps = leave_busy kept (keeps refl)
   return_busy kept _ v keeps = refl
 
@@ -108,6 +110,11 @@ module _ (passes : ℕ) (body : List Stmt) (shared : SharedState) (t : Thread) (
   signal_busy next (may_pick _ _ u among) other = refl
   signal_busy next (may_expire _ _ timed can before) other = absurd (false≢true timed)
 
+  once_busy : (next o f : ℕ) (state : OnceState) → is_busy state ≡ false → DoesSome (calls_once next o f t.id state)
+  unfolding calls_once
+  once_busy next o f (Busy id) free = absurd (true≢false free)
+  once_busy next o f _ free = refl
+
   waitpid_busy : (next pid : ℕ) (result : Dest) (found : Option Child) → DoesSome (begins_waitpid found pid next result)
   unfolding finds_no_child
   waitpid_busy next pid result (Some child) = refl
@@ -118,24 +125,27 @@ module _ (passes : ℕ) (body : List Stmt) (shared : SharedState) (t : Thread) (
   register_busy true next result f = refl
   register_busy false next result f = refl
 
-  runs_busy : (choice : Alt) (frame : Frame) (s : Stmt) → Offered shared t environment (StatementIn frame s) status.Running choice → is_acting choice ≡ false
+  runs_busy : (choice : Alt) (frame : Frame) (s : Stmt) → stop_at body shared t environment frame s ≡ None → offers (choices_at body shared t environment (StatementIn frame s) status.Running) choice ≡ true → is_acting choice ≡ false
       → IsBusy t.handlers t.kept status.Running (StatementIn frame s) → DoesSome (runs passes body shared t environment choice frame s)
   unfolding runs emits sets adds jumps calls gets_self ends_by_exit pushes requests detaches begins_join sets_state sets_mode tests_cancel deletes_key sets_specific gets_specific locks unlocks begins_wait broadcasts begins_sem_wait posts registers_fork begins_fork exits ends_now
-  runs_busy choice frame statement.End may other busy = end_busy (open_of body frame.pc) t.kept frame busy
-  runs_busy choice frame (statement.Return v) may other busy = return_busy t.kept frame.kind _ busy
-  runs_busy choice frame (statement.Pop v) may other busy = pop_busy (suc frame.pc) _ t.handlers busy
-  runs_busy choice frame (statement.PointCall index) may other busy = point_busy (suc frame.pc) index (point_kind index) busy
-  runs_busy choice frame (statement.Create result id f v detached) may other busy = create_busy (suc frame.pc) _ may other
-  runs_busy choice frame (statement.KeyCreate result key destructor) may other busy = create_key_busy (suc frame.pc) may other
-  runs_busy choice frame (statement.Signal c) may other busy = signal_busy (suc frame.pc) may other
-  runs_busy choice frame (statement.AtFork result prepare parent child) may other busy = either_does (nat_lt (length shared.fork_handlers) MAX_FORK_HANDLERS) _ _ refl refl
-  runs_busy choice frame (statement.WaitPid result pid d) may other busy = waitpid_busy (suc frame.pc) _ result _
-  runs_busy choice frame (statement.AtExit result f) may other busy = register_busy (may_register shared) (suc frame.pc) result f
-  runs_busy choice frame _ may other busy = refl
+  runs_busy choice frame statement.End none offered other busy = end_busy (open_of body frame.pc) t.kept frame busy
+  runs_busy choice frame (statement.Return v) none offered other busy = return_busy t.kept frame.kind _ busy
+  runs_busy choice frame (statement.Pop v) none offered other busy = pop_busy (suc frame.pc) _ t.handlers busy
+  runs_busy choice frame (statement.PointCall index) none offered other busy = point_busy (suc frame.pc) index (point_kind index) busy
+  runs_busy choice frame (statement.Create result id f v detached) none offered other busy = create_busy (suc frame.pc) _ (offered_of body shared t environment choice _ _ offered) other
+  runs_busy choice frame (statement.KeyCreate result key destructor) none offered other busy = create_key_busy (suc frame.pc) (offered_of body shared t environment choice _ _ offered) other
+  runs_busy choice frame (statement.Signal c) none offered other busy = signal_busy (suc frame.pc) (offered_of body shared t environment choice _ _ offered) other
+  runs_busy choice frame (statement.CallOnce o f) none offered other busy =
+      let allowed = no_stops body shared t environment frame (statement.CallOnce o f) none in
+      once_busy (suc frame.pc) o f (once_at shared.onces o) (not_busy body shared t environment choice frame o f allowed.0 allowed.1.0 offered)
+  runs_busy choice frame (statement.AtFork result prepare parent child) none offered other busy = either_does (nat_lt (length shared.fork_handlers) MAX_FORK_HANDLERS) _ _ refl refl
+  runs_busy choice frame (statement.WaitPid result pid d) none offered other busy = waitpid_busy (suc frame.pc) _ result _
+  runs_busy choice frame (statement.AtExit result f) none offered other busy = register_busy (may_register shared) (suc frame.pc) result f
+  runs_busy choice frame _ none offered other busy = refl
 
-  stop_busy : (stop : Option Why) (goes : Transition) → DoesSome goes → DoesSome (stops_or stop goes)
+  stop_busy : (stop : Option Why) (goes : Transition) → (stop ≡ None → DoesSome goes) → DoesSome (stops_or stop goes)
   stop_busy (Some why) goes does = refl
-  stop_busy None goes does = does
+  stop_busy None goes does = does refl
 
   -- ---- a thread in a call
 
@@ -219,29 +229,24 @@ module _ (passes : ℕ) (body : List Stmt) (shared : SharedState) (t : Thread) (
   act_busy n next (status.Forking at) offered inside = absurd (false≢true offered)
   act_busy n next _ offered inside = absurd (true≢false inside)
 
-  go_busy : (choice : Alt) (next : NextStatement) (s : Status) → Offered shared t environment next s choice → is_acting choice ≡ false → IsBusy t.handlers t.kept s next → has_no_frame s ≡ false
-      → (next ≡ NoStatement → s ≡ status.Running → ⊥) → DoesSome (transition_at passes body shared t environment choice next s)
-  unfolding transition_at passes_point expires
-  go_busy choice (StatementIn frame s) status.Running may other at inside some = stop_busy (stop_at body shared t environment frame s) _ (runs_busy choice frame s may other at)
-  go_busy choice NoStatement status.Running may other at inside some = absurd (some refl refl)
-  go_busy choice (StatementIn frame (statement.PointCall i)) (status.AtPoint index) may other at inside some = refl
-  go_busy choice _ (status.AtPoint index) may other at inside some = absurd (false≢true at)
-  go_busy choice next (status.Joining id) may other at inside some = join_busy (exit_value_with id environment) id next (may_go_on_untimed may other refl) at
-  go_busy choice next (status.InSem sem) may other at inside some = sem_wait_busy choice sem _ next at
-  go_busy choice (StatementIn frame (statement.WaitPid result operand d)) (status.InWaitPid pid) may other at inside some = reap_busy frame result d operand pid (environment.family.child pid) (may_go_on_untimed may other refl)
-  go_busy choice _ (status.InWaitPid pid) may other at inside some = absurd (false≢true at)
-  go_busy choice next (status.Waiting c m) may other at inside some = refl
-  go_busy choice next (status.Reacquire c m why) may other at inside some = wait_busy t.id c m why next at
-  go_busy choice next (status.Forking fork) may other at inside some = fork_busy _ fork environment.family.new_pid next at
-  go_busy choice next _ may other at inside some = absurd (true≢false inside)
-
-  -- a running thread has a next statement
-  has_next : (choice : Alt) (next : NextStatement) (s : Status) → offers (choices_at body shared t environment next s) choice ≡ true → next ≡ NoStatement → s ≡ status.Running → ⊥
-  unfolding choices_at
-  has_next choice next s offered none running =
-      false≢true (subst (λ (n : NextStatement). offers (choices_at body shared t environment n status.Running) choice ≡ true) none (subst (λ (x : Status). offers (choices_at body shared t environment next x) choice ≡ true) running offered))
+  go_busy : (choice : Alt) (next : NextStatement) (s : Status) → offers (choices_at body shared t environment next s) choice ≡ true → is_acting choice ≡ false → IsBusy t.handlers t.kept s next → has_no_frame s ≡ false
+      → DoesSome (transition_at passes body shared t environment choice next s)
+  unfolding transition_at passes_point expires choices_at
+  go_busy choice (StatementIn frame s) status.Running offered other at inside = stop_busy (stop_at body shared t environment frame s) _ (λ none. runs_busy choice frame s none offered other at)
+  go_busy choice NoStatement status.Running offered other at inside = absurd (false≢true offered)
+  go_busy choice (StatementIn frame (statement.PointCall i)) (status.AtPoint index) offered other at inside = refl
+  go_busy choice _ (status.AtPoint index) offered other at inside = absurd (false≢true at)
+  go_busy choice next (status.Joining id) offered other at inside = join_busy (exit_value_with id environment) id next (may_go_on_untimed (offered_of body shared t environment choice next (status.Joining id) offered) other refl) at
+  go_busy choice next (status.InSem sem) offered other at inside = sem_wait_busy choice sem _ next at
+  go_busy choice (StatementIn frame (statement.WaitPid result operand d)) (status.InWaitPid pid) offered other at inside =
+      reap_busy frame result d operand pid (environment.family.child pid) (may_go_on_untimed (offered_of body shared t environment choice (StatementIn frame (statement.WaitPid result operand d)) (status.InWaitPid pid) offered) other refl)
+  go_busy choice _ (status.InWaitPid pid) offered other at inside = absurd (false≢true at)
+  go_busy choice next (status.Waiting c m) offered other at inside = refl
+  go_busy choice next (status.Reacquire c m why) offered other at inside = wait_busy t.id c m why next at
+  go_busy choice next (status.Forking fork) offered other at inside = fork_busy _ fork environment.family.new_pid next at
+  go_busy choice next _ offered other at inside = absurd (true≢false inside)
 
   pub always_busy : (choice : Alt) (next : NextStatement) (s : Status) → offers (choices_at body shared t environment next s) choice ≡ true → IsBusy t.handlers t.kept s next → has_no_frame s ≡ false
       → DoesSome (does choice next s)
   always_busy (alt.Act n) next s offered at inside = act_busy n next s offered inside
-  always_busy choice next s offered at inside = go_busy choice next s (offered_of body shared t environment choice next s offered) refl at inside (has_next choice next s offered)
+  always_busy choice next s offered at inside = go_busy choice next s offered refl at inside

@@ -1,10 +1,12 @@
 -- What each case of a transition does to the frames of its thread is what the law has.
 use Rattle.pct_names.proofs.Names.{◌&&◌, ◌++◌, [], acts, ap, Bool, cond, Environment, false, ForkAt, Frame, goes_on, handler_event}
-use Rattle.pct_names.proofs.Names.{HandlerCall, has_no_frame, is_none, List, list_any, NextStatement, NoStatement, Option, refl, Script}
-use Rattle.pct_names.proofs.Names.{SharedState, Some, StatementIn, Status, Stmt, suc, sym, Thread, Transition, true, What, while_called}
-use Rattle.pct_names.proofs.Names.{◌||◌, ℕ, ◌∷◌, ◌≡◌}
+use Rattle.pct_names.proofs.Names.{HandlerCall, has_no_frame, is_none, List, list_any, NextStatement, None, NoStatement, open_of, Option}
+use Rattle.pct_names.proofs.Names.{refl, Script, SharedState, Some, StatementIn, Status, Stmt, suc, sym, Thread, Transition, true, What}
+use Rattle.pct_names.proofs.Names.{while_called, ◌||◌, ℕ, ◌∷◌, ◌≡◌}
 use Rattle.std.proofs.lemmas.Bool.{false≢true, true≢false}
+use Rattle.pct_model.specs.declared.event.What.TheVariants as what
 use Rattle.pct_model.specs.declared.state.Status.TheVariants as status
+use Rattle.pct_model.specs.declared.statement.Stmt.TheVariants as statement
 use Rattle.pct_model.specs.declared.transition.OwnAction.TheVariants as own_action
 use Rattle.pct_model.specs.Jumps.{holds, is_while}
 use Rattle.pct_model.specs.LineParsing.{is_empty}
@@ -17,7 +19,7 @@ use Rattle.pct_transition_cases.proofs.TransitionCases.{TransitionCase, Leads, R
 use Rattle.pct_transition_cases.proofs.TransitionCases.{by_return, by_end, rests, jumped, call_left, handler_left, exit_function_left}
 use Rattle.pct_transition_cases.proofs.TransitionCases.{fork_handler_called, fork_handler_left, handler_run, destructor_called, pass_begun}
 use Rattle.pct_transition_cases.proofs.TransitionCases.{thread_ended, thread_ended_with_keys, last_ended, last_ended_with_keys}
-use Rattle.pct_transition_cases.proofs.TransitionCases.{exit_function_called, process_ended}
+use Rattle.pct_transition_cases.proofs.TransitionCases.{exit_function_called, process_ended, routine_left}
 use Rattle.pct_thread_invariants.proofs.lift.HandlerEvents.{of_each_phase}
 use Rattle.pct_frame_laws.proofs.frames.MovedFrames.{called, made, left, places_at}
 
@@ -49,12 +51,22 @@ module _ (body : List Stmt) (shared : SharedState) where
   jumps_to {frame} below (past_end opened is) =
       sym (ap (λ (o : Option ℕ). cond (is_none o) (places below) ((frame.func, option_map_or (λ opening. cond (holds body is_while opening) opening (suc frame.pc)) o (suc frame.pc), frame.kind) ∷ places below)) is)
 
+  -- an `end` that closes no block leaves its function
+  leaves_at_end : (frame : Frame) (below : List Frame) → open_of body frame.pc ≡ None → places below ≡ past body shared.globals (frame ∷ below) (StatementIn frame statement.End)
+  leaves_at_end frame below none =
+      sym (ap (λ (o : Option ℕ). cond (is_none o) (places below) ((frame.func, option_map_or (λ opening. cond (holds body is_while opening) opening (suc frame.pc)) o (suc frame.pc), frame.kind) ∷ places below)) none)
+
   returns_to : {frame : Frame} {s : Stmt} {v : ℕ} (below : List Frame) → Returns body shared.globals frame s v
       → places below
       ≡ called (calls_of shared.globals [] (StatementIn frame s)) ++ cond (calls_fork (StatementIn frame s) status.Running) (places (frame ∷ below)) (past body shared.globals (frame ∷ below) (StatementIn frame s))
   returns_to below (by_return v) = refl
-  returns_to {frame} below (by_end none) =
-      sym (ap (λ (o : Option ℕ). cond (is_none o) (places below) ((frame.func, option_map_or (λ opening. cond (holds body is_while opening) opening (suc frame.pc)) o (suc frame.pc), frame.kind) ∷ places below)) none)
+  returns_to {frame} below (by_end none) = leaves_at_end frame below none
+
+  -- the return of an init routine
+  routine_returns_to : {frame : Frame} {s : Stmt} {v : ℕ} (below : List Frame) (o : ℕ) → Returns body shared.globals frame s v
+      → LeavesIts (frame ∷ below) (StatementIn frame s) status.Running (record (acts (what.OnceDone o ∷ [])) { own = Some (own_action.Leave status.Running) })
+  routine_returns_to below o (by_return v) = refl
+  routine_returns_to {frame} below o (by_end none) = leaves_at_end frame below none
 
   -- the call of a fork handler, in each phase
   handler_called : (frames : List Frame) (next : NextStatement) (at : ForkAt) (call : HandlerCall)
@@ -88,6 +100,7 @@ module _ (passes : ℕ) (shared : SharedState) (t : Thread) (environment : Envir
   case_inside frame below (on_top _ _ s at) inside busy (call_left _ _ v back is) = returns_to _ shared below back
   case_inside frame below (on_top _ _ s at) inside busy (handler_left _ _ v back is) = returns_to _ shared below back
   case_inside frame below (on_top _ _ s at) inside busy (exit_function_left _ _ v back is) = returns_to _ shared below back
+  case_inside frame below (on_top _ _ s at) inside busy (routine_left _ _ v o back is) = routine_returns_to _ shared below o back
   case_inside frame below (on_top _ _ s at) inside busy (fork_handler_left _ _ v kept back is keeps) = returns_to _ shared below back
   case_inside frame below (on_top _ _ s at) inside busy _ = refl
   case_inside frame below (nowhere _ _) inside busy _ = refl

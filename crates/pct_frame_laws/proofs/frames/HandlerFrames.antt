@@ -13,7 +13,7 @@ use Rattle.pct_laws.specs.ThreadSummary.{ThreadSummary}
 use Rattle.pct_transition_cases.proofs.CaseOfTransition.{case_of}
 use Rattle.pct_transition_cases.proofs.PlacedStatements.{IsPlaced, is_placed, on_top}
 use Rattle.pct_transition_cases.proofs.TransitionCases.{TransitionCase, destructor_called, exit_function_called, fork_handler_called}
-use Rattle.pct_transition_cases.proofs.TransitionCases.{function_called, handler_called, handler_run}
+use Rattle.pct_transition_cases.proofs.TransitionCases.{function_called, handler_called, handler_run, routine_called}
 use Rattle.pct_thread_invariants.proofs.ThreadsOfRun.{ProcessFits, processes_fit, thread_rule}
 use Rattle.pct_thread_invariants.proofs.lift.ChangedThreads.{named_keeps}
 use Rattle.pct_thread_invariants.proofs.lift.EveryProcess.{moves_of_run, process_taken}
@@ -99,6 +99,7 @@ module _ (script : Script) (passes : ℕ) (shared : SharedState) (t : Thread) (e
   case_from (frame ∷ below) k placed some (fork_handler_called next at call is) was f a same =
       was f a (of_each_phase (λ (w : What). cond (calls_alone w) (Some w) k ≡ Some (what.HandlerRun f a) → k ≡ Some (what.HandlerRun f a)) call.func (λ x. x) (λ x. x) (λ x. x) at.phase same)
   case_from _ k (on_top frame below _ at) some (function_called _ g v room) was f a same = at_from f (Some (suc frame.pc)) (frame ∷ below) (was f a same)
+  case_from _ k (on_top frame below _ at) some (routine_called _ o g fresh room) was f a same = at_from f (Some (suc frame.pc)) (frame ∷ below) (was f a same)
   case_from _ k (on_top frame below _ at) some (handler_called _ v g b handlers is room not_zero) was f a same = at_from f (Some (suc frame.pc)) (frame ∷ below) (was f a same)
   case_from frames {o = o} k placed some _ was f a same = own_from f o.own refl (places_at o.next frames) (at_from f o.next frames (was f a same))
 

@@ -104,7 +104,7 @@ module _ (script : Script) (config : Config) where
     initial = inl refl;
     own = λ w p e t k known holds.
         let o : Transition = transition_by script config w p t e.alt in
-        let same : (changed e.tid o p).parent ≡ p.parent = own_parent o.process (record p { threads = threads_moved e.tid o p.threads; shared = shared_moved o p.shared }) in
+        let same : (changed e.tid o p).parent ≡ p.parent = own_parent o.process (record p { threads = threads_moved e.tid o p.threads; shared = shared_moved e.tid o p.shared }) in
         elim holds [
           | inl none ↦ inl (same ∙ none)
           | inr made ↦ inr (reading_stays (changed e.tid o p).parent (map (event_of e) (reverse o.events)) (k (changed e.tid o p).parent) ∙ ap k same ∙ made)

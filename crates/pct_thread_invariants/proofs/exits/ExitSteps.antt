@@ -16,7 +16,7 @@ use Rattle.pct_transition_cases.proofs.OfferedChoices.{deliverable_enabled}
 use Rattle.pct_transition_cases.proofs.PlacedStatements.{IsPlaced, on_top}
 use Rattle.pct_transition_cases.proofs.TransitionCases.{TransitionCase, rests, stopped, jumped, emitted, variable_set, variable_added}
 use Rattle.pct_transition_cases.proofs.TransitionCases.{main_returned, start_returned, call_left, handler_left, exit_function_left}
-use Rattle.pct_transition_cases.proofs.TransitionCases.{fork_handler_left, mutex_locked, mutex_unlocked, canceled}
+use Rattle.pct_transition_cases.proofs.TransitionCases.{fork_handler_left, mutex_locked, mutex_unlocked, canceled, routine_left}
 use Rattle.pct_thread_invariants.proofs.StaticPushes.{PushesMatch}
 use Rattle.pct_thread_invariants.proofs.exits.PlainFunctions.{is_plain_next, plain_below}
 use Rattle.pct_thread_invariants.proofs.thread.Ends.{not_both}
@@ -73,5 +73,6 @@ module _ (script : Script) (passes : ℕ) (matches : PushesMatch script) (t : Th
     exit_step_keeps (on_top _ _ s at) (handler_left _ _ v returns (inl is)) plain = absurd (other_kind kind.Handler refl is)
     exit_step_keeps (on_top _ _ s at) (handler_left _ _ v returns (inr is)) plain = absurd (other_kind kind.Destructor refl is)
     exit_step_keeps (on_top _ _ s at) (fork_handler_left _ _ v values returns is keeps) plain = absurd (other_kind kind.ForkFn refl is)
+    exit_step_keeps (on_top _ _ s at) (routine_left _ _ v o returns is) plain = absurd (other_kind (kind.OnceFn o) refl is)
     exit_step_keeps place (canceled next delivered where_it_may) plain = absurd (not_both t.state (fits.agrees.disabled (or_right (has_begun_to_end t.reason) reported.exiting exits.2)) (deliverable_enabled t.state t.pending (delivered refl)))
     exit_step_keeps place _ plain = absurd (false≢true plain)

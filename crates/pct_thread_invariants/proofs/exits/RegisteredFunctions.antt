@@ -34,14 +34,14 @@ module _ (script : Script) where
   }
 
   -- the registered functions after a transition
-  case_plain : (passes : ℕ) (shared : SharedState) (t : Thread) (environment : Environment) {body : List Stmt} {next : NextStatement} {s : Status} {o : Transition} → IsPlaced script t.frames body next → TransitionCase passes body shared t environment true next s o
-      → RegistersPlain shared → RegistersPlain (shared_moved o shared)
+  case_plain : (passes tid : ℕ) (shared : SharedState) (t : Thread) (environment : Environment) {body : List Stmt} {next : NextStatement} {s : Status} {o : Transition} → IsPlaced script t.frames body next → TransitionCase passes body shared t environment true next s o
+      → RegistersPlain shared → RegistersPlain (shared_moved tid o shared)
   unfolding shared_after
-  case_plain passes shared t environment placed (exit_registered frame result f may) plain = record { exit_functions = (registered_plain script frame result f (statement_placed placed), plain.exit_functions); fork_handlers = plain.fork_handlers }
-  case_plain passes shared t environment placed (exit_function_called next f functions is) plain = record { exit_functions = rest_plain shared.exit_functions plain.exit_functions; fork_handlers = plain.fork_handlers }
-  case_plain passes shared t environment placed (fork_registered frame result handlers room) plain =
+  case_plain passes tid shared t environment placed (exit_registered frame result f may) plain = record { exit_functions = (registered_plain script frame result f (statement_placed placed), plain.exit_functions); fork_handlers = plain.fork_handlers }
+  case_plain passes tid shared t environment placed (exit_function_called next f functions is) plain = record { exit_functions = rest_plain shared.exit_functions plain.exit_functions; fork_handlers = plain.fork_handlers }
+  case_plain passes tid shared t environment placed (fork_registered frame result handlers room) plain =
       record { exit_functions = plain.exit_functions; fork_handlers = All-push (ArePlainHandlers script) shared.fork_handlers handlers plain.fork_handlers (handlers_plain script frame result handlers (statement_placed placed)) }
-  case_plain passes shared t environment placed _ plain = plain
+  case_plain passes tid shared t environment placed _ plain = plain
 
   -- ---- the handlers of a fork
 
@@ -80,7 +80,7 @@ module _ (script : Script) where
     plain_after w p e t moves plain =
         let environment : Environment = environment_of config w p t.id in
         subst RegistersPlain (sym (changed_shared e.tid (transition_by script config w p t e.alt) p))
-        (case_plain config.passes p.shared t environment (is_placed script t.frames) (case_of config.passes (body_at script t.frames) p.shared t environment true e.alt (next_of script t.frames) t.status (λ known. moves.offered)) plain)
+        (case_plain config.passes e.tid p.shared t environment (is_placed script t.frames) (case_of config.passes (body_at script t.frames) p.shared t environment true e.alt (next_of script t.frames) t.status (λ known. moves.offered)) plain)
 
     plain_rule : IsProcessRule unread (λ p k. RegistersPlain p.shared) script config (Moves script config)
     unfolding child_of

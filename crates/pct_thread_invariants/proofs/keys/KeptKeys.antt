@@ -139,14 +139,14 @@ named_key n keys is = is_on_place n (key_at keys (key_place n)) is
 
 -- ---- a transition
 
-module _ (script : Script) (names : NamesFunctions script) (passes : ℕ) (shared : SharedState) (t : Thread) (environment : Environment) where
+module _ (script : Script) (names : NamesFunctions script) (passes tid : ℕ) (shared : SharedState) (t : Thread) (environment : Environment) where
   -- the destructor that a statement names
   destructor_of : (frame : Frame) (result key : Dest) (destructor : Option ℕ) → statement_at script frame ≡ Some (statement.KeyCreate result key destructor) → (f : ℕ) → destructor ≡ Some f → f < length script.funcs
   destructor_of frame result key None at f is = absurd (none-some f is)
   destructor_of frame result key (Some g) at f is = subst (λ (n : ℕ). n < length script.funcs) (same_Some g f is) (names.destructor frame result key g at)
 
   -- the keys after a transition
-  pub case_kept : KeysKept script shared.keys → {frames : List Frame} {body : List Stmt} {next : NextStatement} {s : Status} {o : Transition} → IsPlaced script frames body next → TransitionCase passes body shared t environment true next s o → KeysKept script (shared_moved o shared).keys
+  pub case_kept : KeysKept script shared.keys → {frames : List Frame} {body : List Stmt} {next : NextStatement} {s : Status} {o : Transition} → IsPlaced script frames body next → TransitionCase passes body shared t environment true next s o → KeysKept script (shared_moved tid o shared).keys
   unfolding shared_after
   case_kept kept placed (key_made frame result key destructor k among) = made_kept script shared.keys kept k destructor (among refl) (destructor_of frame result key destructor (statement_placed placed))
   case_kept kept placed (key_deleted frame key named) = let place : ℕ = key_place (value_of shared.globals frame key) in deleted_at script shared.keys kept place (slice_get shared.keys place)
@@ -165,7 +165,7 @@ module _ (script : Script) (names : NamesFunctions script) (passes : ℕ) (share
   own_empty _ own empty place none = empty place none
 
   -- the data of any thread of the process
-  named_empty : {body : List Stmt} {next : NextStatement} {s : Status} {o : Transition} → TransitionCase passes body shared t environment true next s o → (own : KeyValues) → AreEmpty shared.keys own → AreEmpty (shared_moved o shared).keys (named_data o.named own)
+  named_empty : {body : List Stmt} {next : NextStatement} {s : Status} {o : Transition} → TransitionCase passes body shared t environment true next s o → (own : KeyValues) → AreEmpty shared.keys own → AreEmpty (shared_moved tid o shared).keys (named_data o.named own)
   unfolding shared_after
   named_empty (key_made frame result key destructor k among) own empty place none = empty place (none_made shared.keys (key_place k) k destructor (slice_get shared.keys (key_place k)) place none)
   named_empty (key_deleted frame key named) own empty place none =
@@ -177,6 +177,6 @@ module _ (script : Script) (names : NamesFunctions script) (passes : ℕ) (share
   named_empty _ own empty place none = empty place none
 
   -- the data of a thread that acts, or of another one, after a transition
-  pub empty_after : {body : List Stmt} {next : NextStatement} {s : Status} {o : Transition} → TransitionCase passes body shared t environment true next s o → (own : KeyValues) (acts : Bool) → AreEmpty shared.keys own → AreEmpty (shared_moved o shared).keys (named_data o.named (cond acts (own_data o.own own) own))
+  pub empty_after : {body : List Stmt} {next : NextStatement} {s : Status} {o : Transition} → TransitionCase passes body shared t environment true next s o → (own : KeyValues) (acts : Bool) → AreEmpty shared.keys own → AreEmpty (shared_moved tid o shared).keys (named_data o.named (cond acts (own_data o.own own) own))
   empty_after {o = o} c own true empty = named_empty c (own_data o.own own) (own_empty c own empty)
   empty_after c own false empty = named_empty c own empty

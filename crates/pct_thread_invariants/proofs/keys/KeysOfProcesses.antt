@@ -65,15 +65,15 @@ module _ (script : Script) (config : Config) (w : World) (p : Process) (e : Entr
 
   -- the keys after the transition
   abbrev next : List KeyPlace
-  next = (shared_moved o p.shared).keys
+  next = (shared_moved e.tid o p.shared).keys
 
   empty_next : (id : ℕ) (w : Thread) → thread_with id (changed e.tid o p) ≡ Some w → AreEmpty next w.specific
   empty_next = each_after script config w p e t moves (λ id w. AreEmpty next w.specific)
-      (λ id u is. subst (AreEmpty next) (sym (data_moved e.tid o u)) (empty_after script (names_functions script) config.passes p.shared t environment its_case u.specific (has_valid_id e.tid u) (fits.empty id u is))) (λ id new makes. new_empty next)
+      (λ id u is. subst (AreEmpty next) (sym (data_moved e.tid o u)) (empty_after script (names_functions script) config.passes e.tid p.shared t environment its_case u.specific (has_valid_id e.tid u) (fits.empty id u is))) (λ id new makes. new_empty next)
 
   fits_after : KeysFit script (changed e.tid o p)
   fits_after = record {
-    keys = subst (λ (s : SharedState). KeysKept script s.keys) (sym (changed_shared e.tid o p)) (case_kept script (names_functions script) config.passes p.shared t environment fits.keys (is_placed script t.frames) its_case);
+    keys = subst (λ (s : SharedState). KeysKept script s.keys) (sym (changed_shared e.tid o p)) (case_kept script (names_functions script) config.passes e.tid p.shared t environment fits.keys (is_placed script t.frames) its_case);
     empty = λ id w is. subst (λ (s : SharedState). AreEmpty s.keys w.specific) (sym (changed_shared e.tid o p)) (empty_next id w is);
   }
 

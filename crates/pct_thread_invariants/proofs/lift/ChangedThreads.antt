@@ -102,15 +102,15 @@ other_action_keeps pid (Some (process_action.Reap child)) p = either_keeps conte
 other_action_keeps pid (Some (process_action.End n)) p = either_keeps contents (nat_eq p.parent pid) (orphaned p.ended p) p p (orphan_keeps p.ended p) refl
 other_action_keeps pid _ p = refl
 
-changed_keeps : (tid : ℕ) (o : Transition) (p : Process) → contents (changed tid o p) ≡ (p.pid, threads_moved tid o p.threads, shared_moved o p.shared)
-changed_keeps tid o p = own_action_keeps o.process (record p { threads = threads_moved tid o p.threads; shared = shared_moved o p.shared })
+changed_keeps : (tid : ℕ) (o : Transition) (p : Process) → contents (changed tid o p) ≡ (p.pid, threads_moved tid o p.threads, shared_moved tid o p.shared)
+changed_keeps tid o p = own_action_keeps o.process (record p { threads = threads_moved tid o p.threads; shared = shared_moved tid o p.shared })
 
 -- the threads of the thread's own process
 pub changed_threads : (tid : ℕ) (o : Transition) (p : Process) → (changed tid o p).threads ≡ threads_moved tid o p.threads
 changed_threads tid o p = ap (λ (c : ℕ × List Thread × SharedState). c.1) (changed_keeps tid o p)
 
 -- the state that they share
-pub changed_shared : (tid : ℕ) (o : Transition) (p : Process) → (changed tid o p).shared ≡ shared_moved o p.shared
+pub changed_shared : (tid : ℕ) (o : Transition) (p : Process) → (changed tid o p).shared ≡ shared_moved tid o p.shared
 changed_shared tid o p = ap (λ (c : ℕ × List Thread × SharedState). c.2) (changed_keeps tid o p)
 
 -- the threads of another process

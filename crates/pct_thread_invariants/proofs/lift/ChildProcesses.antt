@@ -1,4 +1,5 @@
 -- The process that a fork makes: it inherits its parent as that was before the step.
+use Rattle.pct_names.proofs.Names.{onces_after}
 use Rattle.pct_names.proofs.Names.{◌&&◌, ◌++◌, [], AllByRecursion, and_from, and_parts, ap, ap₂, Bool, changed, child_of, cond, false}
 use Rattle.pct_names.proofs.Names.{false≢true, Forking, forks_by, has_valid_id, holds_slot, in_child, inherited, is_last, List, list_any}
 use Rattle.pct_names.proofs.Names.{map, moved, named_after, nat_eq, None, none-some, not, or_parts, own_after, Process, process_after, refl}
@@ -84,7 +85,7 @@ module _ (tid count new : ℕ) where
   -- ---- the process
 
   child_by_fork : (p : Process) → AllByRecursion (ForksIfIt tid count) p.threads → child_of tid new (changed tid o p) ≡ child_of tid new p
-  unfolding forks_by child_of process_after shared_after
+  unfolding forks_by child_of process_after shared_after onces_after
   child_by_fork p fork =
       ap₂ (λ (last : Bool) (threads : List Thread). record { pid = new; parent = p.pid; ended = None; threads = threads; shared = record p.shared { exit_value = None; restricted = not last } })
       (same_last p.threads) (same_threads p.threads fork)

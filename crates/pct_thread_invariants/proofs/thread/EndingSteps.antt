@@ -14,7 +14,7 @@ use Rattle.pct_laws.specs.Kept.{is_exit_kind}
 use Rattle.pct_laws.specs.ThreadSummary.{ThreadSummary}
 use Rattle.pct_transition_cases.proofs.TransitionCases.{TransitionCase, rests, main_returned, start_returned, canceled, thread_made}
 use Rattle.pct_transition_cases.proofs.TransitionCases.{thread_detached, request_sent, thread_ended, thread_ended_with_keys, last_ended}
-use Rattle.pct_transition_cases.proofs.TransitionCases.{last_ended_with_keys}
+use Rattle.pct_transition_cases.proofs.TransitionCases.{last_ended_with_keys, routine_left}
 use Rattle.pct_transition_cases.proofs.CaseOfTransition.{case_of}
 use Rattle.pct_transition_cases.proofs.OfferedChoices.{deliverable_enabled}
 use Rattle.pct_transition_cases.proofs.PlacedStatements.{IsPlaced, on_top, is_placed}
@@ -91,6 +91,7 @@ module _ (passes : ℕ) (body : List Stmt) (shared : SharedState) (t : Thread) (
   unfolding encode syntax_of
   case_of_exit (on_top _ _ s at) exits disabled (start_returned _ _ v returns is) = absurd (true≢false (sym (ap is_exit_kind exits) ∙ ap is_exit_kind is))
   case_of_exit (on_top _ _ s at) exits disabled (main_returned _ _ v returns is begun) = absurd (true≢false (sym (ap is_exit_kind exits) ∙ ap is_exit_kind is))
+  case_of_exit (on_top _ _ s at) exits disabled (routine_left _ _ v o returns is) = absurd (true≢false (sym (ap is_exit_kind exits) ∙ ap is_exit_kind is))
   case_of_exit place exits disabled (canceled next delivered at_point) = absurd (not_both t.state disabled (deliverable_enabled t.state t.pending (delivered refl)))
   case_of_exit place exits disabled _ = refl
 

@@ -4,9 +4,12 @@ use Rattle.pct_names.proofs.Names.{has_begun_to_end, length, List, map, nat_eq, 
 use Rattle.pct_names.proofs.Names.{Popped, Pushed, refl, Script, Some, statement_at, subst, suc, sym, Thread, thread_at, true}
 use Rattle.pct_names.proofs.Names.{without_first, ℕ, ◌∙◌, ◌∷◌, ◌≡◌}
 use Rattle.std.proofs.Common.{length-append, eq-eqb}
+use Rattle.pct_model.specs.declared.event.What.TheVariants as what
 use Rattle.pct_model.specs.declared.state.FrameKind.TheVariants as kind
+use Rattle.pct_model.specs.declared.state.OnceState.TheVariants.{Busy}
 use Rattle.pct_model.specs.declared.statement.Stmt.TheVariants as statement
 use Rattle.pct_model.specs.declared.transition.OwnAction.TheVariants as own_action
+use Rattle.pct_model.specs.declared.transition.SharedAction.TheVariants as shared_action
 use Rattle.pct_laws.specs.Kept.{AreOpen, open_functions}
 use Rattle.std.proofs.lemmas.Bool.{lt-ltb}
 use Rattle.pct_laws.specs.Once.{is_newest}
@@ -59,6 +62,14 @@ module _ (script : Script) (passes : ℕ) (matches : PushesMatch script) where
     call_keeps f x v at in_script fits =
         let next : Fits script passes (running t (record frame { pc = suc frame.pc } ∷ below)) reported = at_pc_fits script passes t frame below (suc frame.pc) (matches.next frame (statement.Do f x) at) (matches.next_within frame (statement.Do f x) at refl) reported fits in
         record { own = call_fits f v kind.Call t (record frame { pc = suc frame.pc } ∷ below) reported in_script next.by_status.fit next; lawful = refl }
+
+    -- pthread_once that calls its routine
+    pub once_keeps : (o f id : ℕ) → statement_at script frame ≡ Some (statement.CallOnce o f) → f < length script.funcs → Fits script passes (running t (frame ∷ below)) reported
+        → Keeps script passes (running t (frame ∷ below)) reported (record (goes_on (suc frame.pc) (what.OnceCalled o ∷ [])) { own = Some (own_action.Call f 0 (kind.OnceFn o)); shared = Some (shared_action.SetOnce o (Busy id)) })
+    unfolding thread_at own_after
+    once_keeps o f id at in_script fits =
+        let next : Fits script passes (running t (record frame { pc = suc frame.pc } ∷ below)) reported = at_pc_fits script passes t frame below (suc frame.pc) (matches.next frame (statement.CallOnce o f) at) (matches.next_within frame (statement.CallOnce o f) at refl) reported fits in
+        record { own = call_fits f 0 (kind.OnceFn o) t (record frame { pc = suc frame.pc } ∷ below) reported in_script next.by_status.fit next; lawful = refl }
 
     -- pthread_cleanup_push
     pub push_keeps : (f : ℕ) (x : Operand) (v : ℕ) → statement_at script frame ≡ Some (statement.Push f x) → f < length script.funcs → Fits script passes (running t (frame ∷ below)) reported → Keeps script passes (running t (frame ∷ below)) reported (record (goes_on (suc frame.pc) (Pushed f v ∷ [])) { own = Some (own_action.PushHandler f v) })

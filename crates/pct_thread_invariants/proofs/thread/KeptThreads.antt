@@ -62,6 +62,7 @@ module _ (script : Script) (why : Reason) (frame : Frame) where
   facts_by kind.Destructor below rest fit = alone kind.Destructor below fit.1 (record { some = refl; bottom = (refl, tt); has_reason = fit.0; no_exit = refl; not_exiting = refl })
   facts_by kind.ForkFn below rest fit = above kind.ForkFn below refl refl (rest fit.0)
   facts_by kind.ExitFn below rest fit = absurd fit
+  facts_by (kind.OnceFn o) below rest fit = above (kind.OnceFn o) below refl refl (rest fit)
 
 -- the frames of a thread that has not begun to exit its process
 pub frame_facts : (script : Script) (why : Reason) (frames : List Frame) → FramesFit script why frames → FrameFacts why frames
@@ -170,6 +171,10 @@ module _ (script : Script) where
     of_any st frames (inl by) = of_status st frames by
     of_any status.Running (frame ∷ []) (inr exits) = of_exiting status.Running (frame ∷ []) exits.2 refl (ap is_bottom_kind exits.0, tt) (ap is_exit_kind exits.0) (λ is. exits.1, tt)
     of_any _ _ (inr exits) = absurd exits
+
+    -- whether it has begun to exit its process
+    pub exiting_by : (st : Status) (frames : List Frame) → ByAnyStatus script st why frames handlers s → s.exiting ≡ is_exiting st frames
+    exiting_by st frames by = (of_any st frames by).exiting
 
     suspended_by : (st : Status) (frames : List Frame) → ByAnyStatus script st why frames handlers s → IsSuspendedAt (next_of script frames) st
     suspended_by (status.InSem sem) frames by = (outside_exit script why handlers s (status.InSem sem) frames refl by).1

@@ -16,6 +16,7 @@ pub record NamesFunctions (script : Script) : Type 0 where
   pub called : (frame : Frame) (f : ℕ) (x : Operand) → statement_at script frame ≡ Some (statement.Do f x) → f < length script.funcs
   pub pushed : (frame : Frame) (f : ℕ) (x : Operand) → statement_at script frame ≡ Some (statement.Push f x) → f < length script.funcs
   pub created : (frame : Frame) (result id : Dest) (f : ℕ) (x : Operand) (detached : Bool) → statement_at script frame ≡ Some (statement.Create result id f x detached) → f < length script.funcs
+  pub routine : (frame : Frame) (o f : ℕ) → statement_at script frame ≡ Some (statement.CallOnce o f) → f < length script.funcs
   pub destructor : (frame : Frame) (result key : Dest) (f : ℕ) → statement_at script frame ≡ Some (statement.KeyCreate result key (Some f)) → f < length script.funcs
 
 -- ---- lists
@@ -37,7 +38,7 @@ found_below names i found = (position-Some (λ (name : List ℕ). bytes_eq name 
 
 module _ (script : Script) where
   abbrev pub contents : Contents
-  contents = record { globals = script.globals; mutexes = script.mutexes; conds = script.conds; sems = script.sems; funcs = script.funcs }
+  contents = record { globals = script.globals; mutexes = script.mutexes; conds = script.conds; sems = script.sems; onces = script.onces; funcs = script.funcs }
 
   item_below : (f : ℕ) → is_found (names_of script.funcs) f ≡ true → f < length script.funcs
   item_below f found = subst (λ (n : ℕ). f < n) (length-map script.funcs (λ (g : Func). g.name)) (found_below (names_of script.funcs) f found)
@@ -57,6 +58,11 @@ module _ (script : Script) where
   unfolding statement_at
   line_of frame s at = line_in frame s (slice_get script.funcs frame.func) refl at
 
+  -- the once control that a statement names is one of the script
+  pub control_below : (frame : Frame) (o f : ℕ) → statement_at script frame ≡ Some (statement.CallOnce o f) → o < length script.onces
+  unfolding has_line has_first_word have_words has_word encode syntax_of
+  control_below frame o f at = let line = line_of frame (statement.CallOnce o f) at in found_below script.onces o (and_parts _ _ line.1).0
+
   main_below : main_of (names_of script.funcs) < length script.funcs
   unfolding main_of
   main_below =
@@ -70,5 +76,6 @@ module _ (script : Script) where
     called = λ frame f x at. let line = line_of frame (statement.Do f x) at in item_below f (and_parts _ _ line.1).0;
     pushed = λ frame f x at. let line = line_of frame (statement.Push f x) at in item_below f (and_parts _ _ line.1).0;
     created = λ frame result id f x detached at. let line = line_of frame (statement.Create result id f x detached) at in item_below f (and_parts _ _ (and_parts _ _ (and_parts _ _ line.1).1).1).0;
+    routine = λ frame o f at. let line = line_of frame (statement.CallOnce o f) at in item_below f (and_parts _ _ (and_parts _ _ line.1).1).0;
     destructor = λ frame result key f at. let line = line_of frame (statement.KeyCreate result key (Some f)) at in item_below f (and_parts _ _ (and_parts _ _ (and_parts _ _ line.1).1).1).0;
   }

@@ -6,10 +6,12 @@ use Rattle.pct_names.proofs.Names.{Status, Stmt, subst, suc, sym, Thread, thread
 use Rattle.pct_names.proofs.Names.{◌⊎◌}
 use Rattle.pct_model.specs.declared.event.What.TheVariants as what
 use Rattle.pct_model.specs.declared.state.FrameKind.TheVariants as kind
+use Rattle.pct_model.specs.declared.state.OnceState.TheVariants.{Done}
 use Rattle.pct_model.specs.declared.state.Reason.TheVariants as reason
 use Rattle.pct_model.specs.declared.state.Status.TheVariants as status
 use Rattle.pct_model.specs.declared.statement.Stmt.TheVariants as statement
 use Rattle.pct_model.specs.declared.transition.OwnAction.TheVariants as own_action
+use Rattle.pct_model.specs.declared.transition.SharedAction.TheVariants as shared_action
 use Rattle.pct_model.specs.Jumps.{is_end}
 use Rattle.pct_laws.specs.OpenPushes.{pushes_after, open_pushes}
 use Rattle.pct_laws.specs.ThreadSummary.{ThreadSummary, no_events}
@@ -33,6 +35,7 @@ module _ (script : Script) where
   handler_by why kind.Destructor below begun rest fit = refl
   handler_by why kind.ForkFn below begun rest fit = absurd (false≢true (sym fit.2 ∙ begun))
   handler_by why kind.ExitFn below begun rest fit = absurd fit
+  handler_by why (kind.OnceFn o) below begun rest fit = rest fit
 
   -- a thread with frames that has begun to end is in a handler
   in_handler : (why : Reason) (frames : List Frame) → has_begun_to_end why ≡ true → FramesFit script why frames → is_in_handler frames ≡ true
@@ -116,6 +119,11 @@ module _ (script : Script) (passes : ℕ) (matches : PushesMatch script) where
     unfolding thread_at own_after
     call_left_keeps globals at returns (inl is) = record { own = leaves script passes t frame below reported fits (none_open globals at returns) (kind_fits kind.Call is); lawful = refl }
     call_left_keeps globals at returns (inr is) = record { own = leaves script passes t frame below reported fits (none_open globals at returns) (kind_fits kind.PopHandler is); lawful = refl }
+
+    pub routine_left_keeps : (globals : List ℕ) (o : ℕ) {s : Stmt} {v : ℕ} → statement_at script frame ≡ Some s → Returns body globals frame s v → frame.kind ≡ kind.OnceFn o
+        → Keeps script passes own reported (record (acts (what.OnceDone o ∷ [])) { own = Some (own_action.Leave status.Running); shared = Some (shared_action.SetOnce o Done) })
+    unfolding thread_at own_after
+    routine_left_keeps globals o at returns is = record { own = leaves script passes t frame below reported fits (none_open globals at returns) (kind_fits (kind.OnceFn o) is); lawful = refl }
 
     pub handler_left_keeps : (globals : List ℕ) {s : Stmt} {v : ℕ} → statement_at script frame ≡ Some s → Returns body globals frame s v → (frame.kind ≡ kind.Handler) ⊎ (frame.kind ≡ kind.Destructor) → Keeps script passes own reported (record (acts []) { own = Some (own_action.Leave status.Ending) })
     unfolding thread_at own_after

@@ -56,6 +56,7 @@ module _ (script : Script) where
   Below kind.PopHandler why below below_fits = below_fits
   Below kind.ForkFn why below below_fits = below_fits × (is_at_fork (next_of script below) ≡ true) × (has_begun_to_end why ≡ false)
   Below kind.ExitFn why below below_fits = ⊥
+  Below (kind.OnceFn o) why below below_fits = below_fits
 
   -- the frames of a thread with a reason to end fit it
   abbrev pub FramesFit : Reason → List Frame → Type 0

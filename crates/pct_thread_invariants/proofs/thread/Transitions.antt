@@ -26,7 +26,7 @@ use Rattle.pct_transition_cases.proofs.TransitionCases.{process_forked, process_
 use Rattle.pct_transition_cases.proofs.TransitionCases.{child_reaped, child_lost, handler_pushed, handler_popped, handler_called}
 use Rattle.pct_transition_cases.proofs.TransitionCases.{exit_called, handler_run, destructor_called, pass_begun, thread_ended}
 use Rattle.pct_transition_cases.proofs.TransitionCases.{thread_ended_with_keys, last_ended, last_ended_with_keys, process_exited}
-use Rattle.pct_transition_cases.proofs.TransitionCases.{process_ended_now, exit_function_called, process_ended}
+use Rattle.pct_transition_cases.proofs.TransitionCases.{process_ended_now, exit_function_called, process_ended, routine_left, routine_called}
 use Rattle.pct_thread_invariants.proofs.StaticPushes.{PushesMatch}
 use Rattle.pct_thread_invariants.proofs.lift.HandlerEvents.{of_each_phase}
 use Rattle.pct_thread_invariants.proofs.lift.ThreadsAfter.{created_thread}
@@ -39,12 +39,12 @@ use Rattle.pct_thread_invariants.proofs.thread.ThreadRule.{ByAnyStatus, Fits, Fi
 use Rattle.pct_thread_invariants.proofs.thread.ThreadRule.{calls_exit_function}
 use Rattle.pct_thread_invariants.proofs.thread.NamedFunctions.{NamesFunctions}
 use Rattle.pct_thread_invariants.proofs.thread.GoingOn.{by_handlers}
-use Rattle.pct_thread_invariants.proofs.thread.Handlers.{call_keeps, push_keeps, drop_keeps, run_keeps}
+use Rattle.pct_thread_invariants.proofs.thread.Handlers.{call_keeps, once_keeps, push_keeps, drop_keeps, run_keeps}
 use Rattle.pct_thread_invariants.proofs.thread.Ends.{not_begun, awake, suspends, cancel_keeps, leave_fits, end_in_wait_keeps, exit_keeps}
 use Rattle.pct_thread_invariants.proofs.thread.Ends.{begin_keeps, handler_keeps, destructor_keeps, pass_keeps, end_lawful, leftover_lawful}
 use Rattle.pct_thread_invariants.proofs.thread.Ends.{ended_fits, exits_fit}
 use Rattle.pct_thread_invariants.proofs.thread.Statements.{new_fits, next_keeps, leads_keeps, kind_fits, call_left_keeps}
-use Rattle.pct_thread_invariants.proofs.thread.Statements.{handler_left_keeps, state_keeps}
+use Rattle.pct_thread_invariants.proofs.thread.Statements.{handler_left_keeps, routine_left_keeps, state_keeps}
 use Rattle.pct_thread_invariants.proofs.thread.ForkHandlers.{fork_handler_keeps, fork_handler_left_keeps}
 
 module _ (script : Script) (passes : ℕ) (matches : PushesMatch script) (names : NamesFunctions script) (shared : SharedState) (kept : KeysKept script shared.keys) (registered : RegistersPlain script shared) (t : Thread) (environment : Environment) (reported : ThreadSummary) where
@@ -72,6 +72,7 @@ module _ (script : Script) (passes : ℕ) (matches : PushesMatch script) (names 
   case_keeps (on_top frame below s at) (call_left _ _ v returns kinds) rule = call_left_keeps script passes matches t frame below reported rule shared.globals at returns kinds
   case_keeps (on_top frame below s at) (handler_left _ _ v returns kinds) rule = handler_left_keeps script passes matches t frame below reported rule shared.globals at returns kinds
   case_keeps (on_top frame below s at) (exit_function_left _ _ v returns is) rule = absurd (kind_fits script passes matches t frame below reported rule kind.ExitFn is)
+  case_keeps (on_top frame below s at) (routine_left _ _ v o returns is) rule = routine_left_keeps script passes matches t frame below reported rule shared.globals o at returns is
   -- threads
   case_keeps (on_top frame below s at) (join_begun _ id d target seen other joinable unjoined unasked) rule = record { own = suspends script passes t status.Running (frame ∷ below) reported rule rule.by_status (status.Joining (value frame id)) (rule.by_status, ap (λ (x : Option Stmt). is_join (next_in frame x)) at); lawful = refl }
   case_keeps (on_top frame below s at) (join_ended _ operand d id v target seen ended) rule =
@@ -116,6 +117,8 @@ module _ (script : Script) (passes : ℕ) (matches : PushesMatch script) (names 
       next_keeps script passes matches t frame below reported (awake script passes t (status.InSem sem) (frame ∷ below) reported rule rule.by_status.0) (status.InSem sem) (statement.SemTimedWait result n) at refl refl refl refl refl refl
   case_keeps (on_top frame below s at) (sem_wait_timed_out _ result n sem none) rule =
       next_keeps script passes matches t frame below reported (awake script passes t (status.InSem sem) (frame ∷ below) reported rule rule.by_status.0) (status.InSem sem) (statement.SemTimedWait result n) at refl refl refl refl refl refl
+  -- once controls
+  case_keeps (on_top frame below s at) (routine_called _ o f fresh room) rule = once_keeps script passes matches t frame below reported o f t.id at (names.routine frame o f at) rule
   -- fork and its handlers, and waitpid
   case_keeps (on_top frame below s at) (fork_begun _ result child alive) rule =
       let count : ℕ = length shared.fork_handlers in

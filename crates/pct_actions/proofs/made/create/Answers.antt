@@ -24,7 +24,7 @@ returns-in-Some c =
     let new = c.in-Some.new in
     (λ i. record {
       slots = (ap (λ keys. slots_of keys.rows c.create.new.self) c.clear_row.ensures ∙ ap (slots_of (slice_set s.keys.rows c.slot_of-slot.result no_values)) c.create.ensures.table ∙ slots_created s.keys s.threads c.process.invariant new c.slot_of-slot.result c.slot_of-slot.ensures.value next) i;
-      shared = shared_of s.globals s.owners s.counts (ap (λ keys. keys.places) c.clear_row.ensures i) s.fork_handlers s.exit_functions s.exit_value s.restricted;
+      shared = shared_of s.globals s.owners s.counts s.onces (ap (λ keys. keys.places) c.clear_row.ensures i) s.fork_handlers s.exit_functions s.exit_value s.restricted;
     })
     ∙ ap (created_made (Some new)) c.process.view_is
     ∙ ap (λ (created : Option NewThread). created_made created c.args.process.now) (sym c.in-Some.is)

@@ -1,5 +1,6 @@
-use Rattle.pct_names.proofs.Names.{ap, length-map, map, option_map, same_Some, shared_moved, subst, sym, Thread, thread_moved, ℕ, ◌∙◌, ◌≡◌}
+use Rattle.pct_names.proofs.Names.{ap, length-map, map, option_map, same_Some, shared_moved, Some, subst, sym, Thread, thread_moved, ℕ, ◌∙◌, ◌≡◌}
 use Rattle.pct_engine_laws.specs.Seen.{slot_after, with_created}
+use Rattle.pct_process.specs.ProcessViews.{thread_on_slot}
 use Rattle.pct_actions.specs.ProcessChanges.{data_moved}
 use Rattle.pct_actions.specs.ProcessParts.{created_made, others_made, NewFits, OthersFit}
 use Rattle.pct_actions.proofs.ChangedSlots.{new_stays}
@@ -14,15 +15,16 @@ act_on_others-requires c =
     let o = c.args.transition.now in
     let p = c.args.process.now in
     let alone = alone_on p.slots c.slot_count-count.ensures.single c.args.slot c.requires.thread c.requires.here in
-    subst (OthersFit o) (sym c.make_own.ensures) (others_fit c.args.slot o p c.requires _ alone)
+    subst (OthersFit o) (sym (c.make_own.ensures c.requires.thread.id (ap (option_map (λ (x : Thread). x.id)) c.requires.here))) (others_fit c.args.slot o p c.requires _ alone)
 
 pub create-requires : goal.create-requires
 create-requires c =
     let o = c.args.transition.now in
     let p = c.args.process.now in
     let alone = alone_on p.slots c.slot_count-count.ensures.single c.args.slot c.requires.thread c.requires.here in
-    let made = c.act_on_others.ensures ∙ ap (others_made o) c.make_own.ensures ∙ parts_made c.args.slot o p c.requires _ alone in
-    subst (NewFits o.created) (sym made) (new_stays o.created (thread_moved c.requires.thread.id o) p (shared_moved o p.shared) c.requires.created)
+    let own = c.make_own.ensures c.requires.thread.id (ap (option_map (λ (x : Thread). x.id)) c.requires.here) in
+    let made = c.act_on_others.ensures ∙ ap (others_made o) own ∙ parts_made c.args.slot o p c.requires _ alone in
+    subst (NewFits o.created) (sym made) (new_stays o.created (thread_moved c.requires.thread.id o) p (shared_moved c.requires.thread.id o p.shared) c.requires.created)
 
 pub returns : goal.returns
 returns c = λ tid own.
@@ -30,8 +32,9 @@ returns c = λ tid own.
     let p = c.args.process.now in
     let t = c.requires.thread in
     let alone = alone_on p.slots c.slot_count-count.ensures.single c.args.slot t c.requires.here in
-    let named : t.id ≡ tid = same_Some t.id tid (sym (ap (option_map (λ (x : Thread). x.id)) c.requires.here) ∙ own.here) in
+    let here : option_map (λ (x : Thread). x.id) (thread_on_slot p.slots c.args.slot) ≡ Some t.id = ap (option_map (λ (x : Thread). x.id)) c.requires.here in
+    let named : t.id ≡ tid = same_Some t.id tid (sym here ∙ own.here) in
     c.create.ensures
-    ∙ ap (created_made o.created) (c.act_on_others.ensures ∙ ap (others_made o) c.make_own.ensures ∙ parts_made c.args.slot o p c.requires _ alone)
-    ∙ ap (λ (n : ℕ). record { slots = with_created n o.created (map (slot_after t.id o) p.slots); shared = shared_moved o p.shared }) (length-map p.slots (slot_after t.id o))
+    ∙ ap (created_made o.created) (c.act_on_others.ensures ∙ ap (others_made o) (c.make_own.ensures t.id here) ∙ parts_made c.args.slot o p c.requires _ alone)
+    ∙ ap (λ (n : ℕ). record { slots = with_created n o.created (map (slot_after t.id o) p.slots); shared = shared_moved t.id o p.shared }) (length-map p.slots (slot_after t.id o))
     ∙ ap (λ (n : ℕ). data_moved n o p) named

@@ -1,4 +1,4 @@
-use Rattle.pct_names.proofs.Names.{◌<◌, ap, length, List, moved, subst, sym, ◌∙◌}
+use Rattle.pct_names.proofs.Names.{◌<◌, ap, length, List, moved, onces_after, same_Some, subst, sym, ℕ, ◌∙◌, ◌≡◌}
 use Rattle.pct_threads.specs.Slots.{Slot, after_change}
 use Rattle.pct_threads.proofs.TableLemmas.{length-on_slot}
 use Rattle.pct_process.specs.ThreadViews.{thread_of}
@@ -33,9 +33,10 @@ invariant_of-process c =
     c.change_data.ensures.length ∙ c.process.invariant ∙ sym (ap (λ (threads : List Slot). length threads) c.move_own.ensures ∙ length-on_slot c.args.slot (after_change (λ h. unless_reclaimed (held_of (moved c.args.transition.now (thread_of h))))) slots)
 
 pub returns : goal.returns
-returns c =
+returns c = λ tid own.
     let s = c.process.inside in
+    let id : c.id_on-tid.result ≡ tid = same_Some c.id_on-tid.result tid (sym c.id_on-tid.ensures ∙ own) in
     let rows = c.change_data.new.keys.rows in
     let threads = c.move_own.new.threads in
-    (λ i. record { slots = slots_of rows threads; shared = shared_of (c.write_globals.ensures i) s.owners s.counts (ap (λ keys. keys.places) c.change_data.ensures.table i) s.fork_handlers s.exit_functions s.exit_value s.restricted })
-    ∙ after_own s.keys s.threads c.process.invariant _ c.args.process.now c.process.view_is c.args.slot c.args.transition.now c.requires rows threads (ap (λ keys. keys.rows) c.change_data.ensures.table) c.move_own.ensures
+    (λ i. record { slots = slots_of rows threads; shared = shared_of (c.write_globals.ensures i) s.owners s.counts ((c.change_onces.ensures ∙ ap (λ (n : ℕ). onces_after n c.args.transition.now.own s.onces) id) i) (ap (λ keys. keys.places) c.change_data.ensures.table i) s.fork_handlers s.exit_functions s.exit_value s.restricted })
+    ∙ after_own s.keys s.threads c.process.invariant _ c.args.process.now c.process.view_is c.args.slot c.args.transition.now c.requires tid rows threads (ap (λ keys. keys.rows) c.change_data.ensures.table) c.move_own.ensures

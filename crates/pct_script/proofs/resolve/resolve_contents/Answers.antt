@@ -19,6 +19,6 @@ returns c =
     let names = symbols_of c.in_ok-symbols.symbols in
     let each = c.in_ok-symbols.ensures in (
       sym (unknown_is names lines each) ∙ c.in_ok-funcs.ensures.0,
-      contents_are_read names lines each c.in_ok-funcs.funcs c.into_names.result c.into_names-2.result c.into_names-3.result c.in_ok-sems.sems c.in_ok-funcs.ensures.1
-          c.into_names.ensures c.into_names-2.ensures c.into_names-3.ensures c.in_ok-sems.ensures,
+      contents_are_read names lines each c.in_ok-funcs.funcs c.into_names.result c.into_names-2.result c.into_names-3.result c.into_names-4.result c.in_ok-sems.sems c.in_ok-funcs.ensures.1
+          c.into_names.ensures c.into_names-2.ensures c.into_names-3.ensures c.into_names-4.ensures c.in_ok-sems.ensures,
     )

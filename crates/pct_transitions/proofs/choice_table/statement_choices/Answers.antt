@@ -9,5 +9,8 @@ returns-in-KeyCreate-clause-within c = c.new_key_or_go.ensures.within _
 pub returns-in-Lock-clause-within : goal.returns-in-Lock-clause-within
 returns-in-Lock-clause-within c = c.go_or_act.ensures.within _
 
+pub returns-in-CallOnce-clause-within : goal.returns-in-CallOnce-clause-within
+returns-in-CallOnce-clause-within c = c.go_or_act-in-CallOnce.ensures.within _
+
 pub returns-in-Signal-clause-within : goal.returns-in-Signal-clause-within
 returns-in-Signal-clause-within c = c.pick_or_go.ensures.within _ c.waiters.ensures.held

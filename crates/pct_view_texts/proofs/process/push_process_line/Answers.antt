@@ -15,5 +15,5 @@ returns c = λ p pid shared.
     (rw (c.as_slice-3.ensures, c.as_slice-4.ensures) at c.in_ok-push_mutexes.ensures)
     (rw (c.as_slice-5.ensures, c.as_slice-6.ensures) at c.in_ok-push_semaphores.ensures)
     c.in_ok-push_keys.ensures
-    (c.in_ok-push_registered.ensures ∙ ap (λ (d : ProcessData). text_in c.push_keys.new.text ++ (9 ∷ field_text (registered_phrases script d.shared))) (sym c.state.view_is))
+    (c.in_ok-push_registered.ensures ∙ ap (λ (d : ProcessData). text_in c.push_keys.new.text ++ (9 ∷ field_text (registered_phrases script c.args.pid d.shared))) (sym c.state.view_is))
     c.push.ensures

@@ -1,4 +1,5 @@
 use Rattle.pct_names.proofs.Names.{ap, arith, false, Func, length, List, Main, main_of, map, Name, names_of, replicate, SemDecl, ◌∙◌}
+use Rattle.pct_model.specs.declared.state.OnceState.TheVariants.{Fresh}
 use Rattle.pct_model.proofs.StaticFacts.{few_functions}
 use Rattle.pct_threads.specs.Slots.{with_call_alone}
 use Rattle.pct_threads.specs.Tables.{on_held, with_created}
@@ -8,7 +9,7 @@ use Rattle.pct_process.proofs.process_state.ProcessState.first.Goals as goal
 pub overflow_cast-main : goal.overflow_cast-main
 overflow_cast-main c =
     let s = c.args.script.now in
-    let few = few_functions (record { globals = s.globals; mutexes = s.mutexes; conds = s.conds; sems = s.sems; funcs = s.funcs }) s.passes_checks in
+    let few = few_functions (record { globals = s.globals; mutexes = s.mutexes; conds = s.conds; sems = s.sems; onces = s.onces; funcs = s.funcs }) s.passes_checks in
     omega (arith, few, c.main_of-main.ensures.bound, ap length c.as_slice.ensures)
 
 pub new-requires-3 : goal.new-requires-3
@@ -20,9 +21,12 @@ new-requires-4 c = omega (arith, (few_declared c.args.script.now).1, ap length c
 pub counts_of-requires : goal.counts_of-requires
 counts_of-requires c = omega (arith, (few_declared c.args.script.now).2, ap length c.as_slice-4.ensures)
 
+pub new-requires-5 : goal.new-requires-5
+new-requires-5 c = omega (arith, (few_declared c.args.script.now).3, ap length c.as_slice-5.ensures)
+
 pub returns : goal.returns
 returns c =
-    data-first c.args.script.now c.args.slots c.main_of-main.result c.call_alone.new.self c.in_ok-new.field-0 c.new-3.result c.new-4.result c.counts_of.result c.new-5.result c.new-6.result
+    data-first c.args.script.now c.args.slots c.main_of-main.result c.call_alone.new.self c.in_ok-new.field-0 c.new-3.result c.new-4.result c.counts_of.result c.new-5.result c.new-6.result c.new-7.result
     (omega (arith, c.requires.some))
     (c.main_of-main.ensures.value ∙ ap (λ (funcs : List Func). main_of (names_of funcs)) c.as_slice.ensures)
     (c.call_alone.ensures ∙ ap (on_held 0 (with_call_alone c.main_of-main.result 0 Main)) (c.create.ensures.table ∙ ap (with_created 0 c.main_of-main.result 0 false) c.in_ok-threads.ensures))
@@ -30,8 +34,9 @@ returns c =
     (c.new-3.ensures ∙ ap (λ (names : List Name). replicate (length names) 0) c.as_slice-2.ensures)
     (c.new-4.ensures ∙ ap (λ (names : List Name). replicate (length names) 0) c.as_slice-3.ensures)
     (c.counts_of.ensures ∙ ap (λ (sems : List SemDecl). map (λ d. d.count) sems) c.as_slice-4.ensures)
-    c.new-5.ensures
+    (c.new-5.ensures ∙ ap (λ (names : List Name). replicate (length names) Fresh) c.as_slice-5.ensures)
     c.new-6.ensures
+    c.new-7.ensures
 
 pub invariant_of-result : goal.invariant_of-result
 invariant_of-result c =

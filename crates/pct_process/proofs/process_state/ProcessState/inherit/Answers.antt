@@ -29,6 +29,6 @@ returns c = λ tid own.
     c.is_last.ensures ∙ ap (λ (n : ℕ). is_last_in n c.args.parent.now.slots) id ∙ sym (ap (λ (d : ProcessData). is_last_in tid d.slots) c.parent.view_is) in
     let was = subst (λ (t : List Slot). thread_at t slot ≡ Some thread) c.clone_one_from.ensures c.write.ensures.value in
     let slots = slots-inherited p.keys p.threads c.parent.invariant slot occupied tid (subst (λ (d : ProcessData). HoldsOneSlot tid slot d.slots) (sym c.parent.view_is) own) thread c.become_replica.new.thread was c.become_replica.ensures in
-    let with_parts : List SeenSlot → Bool → ProcessData = λ slots last. record { slots = slots; shared = shared_of p.globals p.owners p.counts p.keys.places p.fork_handlers p.exit_functions None (not last) } in
-    rw (c.clone_one_from.ensures, c.copy_from.ensures, c.copy_from-2.ensures, c.copy_from-3.ensures, c.copy_from-4.ensures, c.copy_from-5.ensures, c.copy_from-6.ensures)
+    let with_parts : List SeenSlot → Bool → ProcessData = λ slots last. record { slots = slots; shared = shared_of p.globals p.owners p.counts p.onces p.keys.places p.fork_handlers p.exit_functions None (not last) } in
+    rw (c.clone_one_from.ensures, c.copy_from.ensures, c.copy_from-2.ensures, c.copy_from-3.ensures, c.copy_from-4.ensures, c.copy_from-5.ensures, c.copy_from-6.ensures, c.copy_from-7.ensures)
     ((λ i. with_parts (slots i) (last i)) ∙ ap (data_inherited tid) c.parent.view_is)

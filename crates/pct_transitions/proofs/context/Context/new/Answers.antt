@@ -33,8 +33,8 @@ returns-clause-context c =
     let h = held_of keys threads c.process.invariant c.args.slot t (subst (λ (d : ProcessData). thread_on_slot d.slots c.args.slot ≡ Some t) (sym c.process.view_is) at) in
     let position = subst (IsPosition script read.result) h.2 (read.ensures.position h.0 h.1) in
     record {
-      shared_is = subst (λ (d : ProcessData). AreShared c.as_slice.result.now c.as_slice-2.result.now c.as_slice-3.result.now read.result.keys.now.places s.fork_handlers s.exit_functions s.exit_value s.restricted d.shared) c.process.view_is
-          (record { globals_are = c.as_slice.ensures; owners_are = c.as_slice-2.ensures; counts_are = c.as_slice-3.ensures; keys_are = ap (λ (k : Table). k.places) read.ensures.keys; fork_handlers_are = refl; exit_functions_are = refl; exit_value_is = refl; restricted_is = refl });
+      shared_is = subst (λ (d : ProcessData). AreShared c.as_slice.result.now c.as_slice-2.result.now c.as_slice-3.result.now c.as_slice-4.result.now read.result.keys.now.places s.fork_handlers s.exit_functions s.exit_value s.restricted d.shared) c.process.view_is
+          (record { globals_are = c.as_slice.ensures; owners_are = c.as_slice-2.ensures; counts_are = c.as_slice-3.ensures; onces_are = c.as_slice-4.ensures; keys_are = ap (λ (k : Table). k.places) read.ensures.keys; fork_handlers_are = refl; exit_functions_are = refl; exit_value_is = refl; restricted_is = refl });
       position_is = position;
       environment_is = subst (λ (d : ProcessData). environment_in timeouts (length d.slots) (other_processes c.args.around.family) d.slots t.id ≡ environment_in timeouts (length (slots_of read.result.keys.now.rows threads)) (other_processes c.args.around.family) (slots_of read.result.keys.now.rows threads) read.result.id) c.process.view_is
           (λ i. environment_in timeouts (length (slots_of (sym read.ensures.keys i).rows threads)) (other_processes c.args.around.family) (slots_of (sym read.ensures.keys i).rows threads) (sym position.id_is i));

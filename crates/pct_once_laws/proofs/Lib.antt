@@ -1,0 +1,5 @@
+pub mod OnceStates
+pub mod OnceTransitions
+pub mod RoutineThreads
+pub mod OncesOfRun
+pub mod RoutineReturns
