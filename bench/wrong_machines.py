@@ -208,9 +208,9 @@ MACHINES = (
              "(record (acts (what.WaitExpired c ∷ [])) { own = Some (own_action.SetStatus (status.Reacquire c m cause.TimedOut)) })",
              "(record (acts (what.WaitExpired c ∷ [])) { own = Some (own_action.SetStatus status.Running) })")),
     # pthread_cond_wait counts as a wait with a time.
-    Machine("the_time_of_an_untimed_wait_expires", "CondLaw", "waits/WaitSteps", "Formats",
-            "is_timed (statement.CondTimedWait result c m) = true",
-            "is_timed (statement.CondTimedWait result c m) = true\nis_timed (statement.CondWait c m) = true"),
+    Machine("the_time_of_an_untimed_wait_expires", "CondLaw", "waits/WaitSteps", "ChoiceTable",
+            "is_timed_wait (StatementIn frame s) = is_timed s",
+            "is_timed_wait (StatementIn frame (statement.CondWait c m)) = true\nis_timed_wait (StatementIn frame s) = is_timed s"),
     Machine("a_sem_timedwait_takes_as_it_times_out", "SharedLaw", "SharedChanges", "SemCalls",
             "(what.Answer caller.SemTimedWait ETIMEDOUT ∷ [])) { writes = (result, ETIMEDOUT) ∷ [] }",
             "(what.Answer caller.SemTimedWait ETIMEDOUT ∷ [])) { writes = (result, ETIMEDOUT) ∷ []; shared = Some (shared_action.SetCount s (count - 1)) }",
