@@ -63,11 +63,13 @@ IsReplayed words input code text =
     → sched_of (schedule_part again) ≡ sched_of text → length again ≤ MAX_INPUT
     → Outcome (keyword_text keyword.Replay ∷ []) again [] code text
 
--- the text is the report of a run of the script of the input. The run keeps the laws of how threads end: those of cleanup handlers,
--- destructors and the calls of functions (XSH 2.9.5.3, pthread_exit, pthread_key_create), that of cancellation (XSH 2.9.5.1, 2.9.5.2,
--- pthread_cancel), that of joins, requests and detaches (XSH 2.9.2, pthread_join, pthread_detach), that of mutexes and condition waits
--- (XSH pthread_mutex_lock, pthread_cond_wait), that of the ids of threads (XSH pthread_create), and that of processes (XSH fork, exit,
--- waitpid). The state after it keeps the invariant.
+-- the text is the report of a run of the script of the input. The run keeps the laws of how threads end (Laws.antt): those of cleanup
+-- handlers, destructors and the calls of functions (XSH 2.9.5.3, pthread_exit, pthread_key_create), those of frames, of what a statement
+-- does, and of results and values (pthread_cleanup_push, pthread_setspecific), that of cancellation (XSH 2.9.5.1, 2.9.5.2, pthread_cancel),
+-- that of joins, requests and detaches (XSH 2.9.2, pthread_join, pthread_detach), those of mutexes, condition waits, wake-ups and what the
+-- threads of a process share (pthread_mutex_lock, pthread_cond_wait, pthread_cond_timedwait, pthread_cond_signal, sem_wait), that of once
+-- controls (pthread_once), that of the ids of threads and those of the threads and processes that are made (pthread_create, pthread_atfork,
+-- fork, exit, waitpid). The state after it keeps the invariant.
 pub record IsLawful (words : List (List ℕ)) (input : List ℕ) (text : List ℕ) : Type 0 where
   pub script : Script
   pub spelled : Spells (script_part words input) script

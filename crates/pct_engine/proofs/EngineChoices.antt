@@ -10,11 +10,11 @@ use Rattle.pct_engine_laws.proofs.OpenRuns.{open_left, goes_on_while_open}
 use Rattle.pct_engine_laws.proofs.VerdictSeen.{verdict_is_seen}
 use Rattle.pct_transitions.specs.Programs.{ProgramValue}
 use Rattle.pct_machine.specs.MachineSteps.{legal_transition}
+use Rattle.pct_machine.proofs.ConfigLimits.{slots_within}
 use Rattle.pct_engine.specs.Traces.{TraceValue}
 use Rattle.pct_engine.specs.EngineStates.{EngineValue, StandsFor, IsRunWith, IsChoice}
 use Rattle.pct_engine.proofs.EngineRuns.{run_moved, next_run}
 use Rattle.pct_engine.proofs.OpenChoices.{open_chooses}
-use Rattle.pct_engine.proofs.ReachedStates.{slots_within}
 
 some_and : {T : Type 0} (o : Option T) (P Q : T → Type 0) → is_some o ≡ true → ((x : T) → P x → Q x) → IfSome o P → IsSomeAnd o Q
 some_and None P Q some next holds = absurd (false≢true some)

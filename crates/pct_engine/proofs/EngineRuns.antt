@@ -9,9 +9,9 @@ use Rattle.pct_engine_laws.proofs.LongerRuns.{run_parts, run_none, run_more, run
 use Rattle.pct_engine_laws.proofs.StepSeen.{successor_of, may_step, step_is_seen}
 use Rattle.pct_transitions.specs.Programs.{ProgramValue}
 use Rattle.pct_machine.specs.MachineSteps.{legal_transition}
+use Rattle.pct_machine.proofs.ConfigLimits.{slots_within}
 use Rattle.pct_engine.specs.Traces.{TraceValue}
 use Rattle.pct_engine.specs.EngineStates.{StandsFor}
-use Rattle.pct_engine.proofs.ReachedStates.{slots_within}
 
 -- ---- lists
 

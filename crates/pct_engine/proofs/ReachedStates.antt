@@ -1,9 +1,7 @@
 -- What holds of each state that a run reaches.
-use Rattle.pct_names.proofs.Names.{◌&&◌, ◌*◌, ◌+◌, ◌<◌, ◌^◌, All, All-weaker, and_parts, arith, Bool, Config, Entry, get_or_from_slice_get}
-use Rattle.pct_names.proofs.Names.{is_config, KeyPlace, length, List, MAX_BUDGET, MAX_PASSES, MAX_SLOTS, MIN_PASSES, mul-le-mul, nat_le}
-use Rattle.pct_names.proofs.Names.{None, Option, option_map_or, refl, Run, run, Script, slice_get, slice_get_within, Some, subst, sym, true}
-use Rattle.pct_names.proofs.Names.{ℕ, ◌≡◌, ◌≤◌}
-use Rattle.std.proofs.lemmas.Bool.{leb-true}
+use Rattle.pct_names.proofs.Names.{◌*◌, ◌+◌, ◌<◌, ◌^◌, All, All-weaker, arith, Config, Entry, get_or_from_slice_get, KeyPlace, length, List}
+use Rattle.pct_names.proofs.Names.{mul-le-mul, None, Option, option_map_or, refl, Run, run, Script, slice_get, slice_get_within, Some, subst}
+use Rattle.pct_names.proofs.Names.{sym, ℕ, ◌≡◌, ◌≤◌}
 use Rattle.pct_engine_laws.specs.Seen.{SeenProcess, Seen, seen}
 use Rattle.pct_engine_laws.specs.ThreadCounts.{MadeAtMost}
 use Rattle.pct_engine_laws.specs.KeyCounts.{KeysAtMost}
@@ -17,17 +15,10 @@ use Rattle.pct_ending_laws.proofs.KeptStates.{every_state_is_kept}
 use Rattle.pct_actions.specs.ProcessChanges.{IsOnSlot}
 use Rattle.pct_transitions.specs.Programs.{ProgramValue}
 use Rattle.pct_machine.specs.ProcessSteps.{EachCanStep, AllCanStep}
+use Rattle.pct_machine.proofs.ConfigLimits.{slots_within}
 use Rattle.pct_engine.specs.Traces.{TraceValue}
 use Rattle.pct_engine.specs.EngineStates.{StandsFor}
 use Rattle.pct_engine.proofs.ForkingThreads.{forks_have_room}
-
--- a configuration within the limits has 1 to 64 slots
-pub slots_within : (config : Config) → is_config config ≡ true → (1 ≤ config.slots) × (config.slots ≤ MAX_SLOTS)
-slots_within config limits =
-    let early : Bool = nat_le 1 config.budget && nat_le config.budget MAX_BUDGET && nat_le MIN_PASSES config.passes && nat_le config.passes MAX_PASSES in
-    let few = and_parts (early && nat_le 1 config.slots) (nat_le config.slots MAX_SLOTS) limits in
-    let some = and_parts early (nat_le 1 config.slots) few.0 in
-    (leb-true 1 config.slots some.1, leb-true config.slots MAX_SLOTS few.1)
 
 next_below : (slot slots made n : ℕ) → slot < slots → slots ≤ 64 → made ≤ 1 + n → n ≤ 200000 → 1 + slot + slots * made < 2 ^ 32
 next_below slot slots made n low few made_few budget =

@@ -2,12 +2,15 @@
 
 ghost use Rattle.std.specs.Prelude.{◌≡◌, ◌↔◌, true, [], ◌∷◌, ◌++◌, IsOk, OnOk, OnErr, is_some};
 ghost use Rattle.pct_model.specs.Run.{run};
+ghost use Rattle.pct_model.specs.Formats.{has_timeouts};
 ghost use Rattle.pct_engine.specs.EngineStates.{StandsFor};
+ghost use Rattle.pct_ready_sets.specs.ReadyConditions.{FollowAll};
 
 use crate::trace::Trace;
 use pct_io::NoMemory;
 use pct_machine::{Draw, Machine, ProcessView};
 use pct_model::{Config, Entry, Event, Script, Verdict};
+use pct_ready_sets::AllReadySets;
 use pct_transitions::{Program, no_change};
 use std::alloc::Global;
 use std::marker::Model;
@@ -22,21 +25,25 @@ pub struct NotLegal;
 pub struct Engine {
     program: Program,
     machine: Machine,
+    // What is known of the threads that have a choice.
+    sets: AllReadySets,
     trace: Trace,
 }
 
 impl Model for Engine {
+    ghost use Rattle.pct_model.specs.Formats.{has_timeouts};
     ghost use Rattle.pct_engine.specs.EngineStates.{EngineValue, StandsFor};
+    ghost use Rattle.pct_ready_sets.specs.ReadyConditions.{FollowAll};
 
     ghost Value = { EngineValue };
 
     ghost view = { λ e. record { script = e.program.script; config = e.program.config; history = e.trace.history } };
 
-    ghost invariant = { λ e. StandsFor e.program e.trace e.machine };
+    ghost invariant = { λ e. StandsFor e.program e.trace e.machine × FollowAll e.program.script (has_timeouts e.program.config.format) e.machine.processes e.sets };
 }
 
 impl Engine {
-    ghost use Rattle.std.specs.Prelude.{◌≡◌, ◌↔◌, ◌*◌, ◌≤◌, [], ◌∷◌, ◌++◌, length, reverse, IfOk, IsOk, OnOk, OnErr, IsTrue, slice_get};
+    ghost use Rattle.std.specs.Prelude.{◌≡◌, ◌↔◌, ◌*◌, ◌≤◌, [], ◌∷◌, ◌++◌, length, reverse, IfOk, IfNone, IfSome, IsOk, OnOk, OnErr, IsTrue, slice_get};
     ghost use Rattle.pct_model.specs.declared.limits.TheConstants.{MAX_PROCESSES, MAX_WORKER};
     ghost use Rattle.pct_model.specs.Run.{Run, is_config, verdict_of};
     ghost use Rattle.pct_engine_laws.specs.Seen.{seen};
@@ -51,10 +58,12 @@ impl Engine {
     {
         let trace = Trace::new(alloc, config.budget)?;
         let machine = Machine::first(alloc, &script, config.slots)?;
+        let sets = AllReadySets::new(alloc)?;
         let program = Program::new(alloc, script, config)?;
         Ok(Engine {
             program,
             machine,
+            sets,
             trace,
         })
     }
@@ -69,7 +78,13 @@ impl Engine {
         // Of every legal schedule: the run keeps the laws, and its state keeps the invariant.
         ensures laws { (after : Run) → IsRunOf self.new after → KeepsLaws self.new after }
     {
-        step_with(&self.program, &mut self.machine, &mut self.trace, entry)
+        step_with(
+            &self.program,
+            &mut self.machine,
+            &mut self.sets,
+            &mut self.trace,
+            entry,
+        )
     }
 
     /// The entry that two numbers choose for a worker, at most `MAX_WORKER`. Of the threads that are ready, by rising process
@@ -90,7 +105,31 @@ impl Engine {
             thread: a,
             choice: b,
         };
-        self.machine.chosen(&self.program, draw)
+        self.machine.chosen(&self.program, &self.sets, draw)
+    }
+
+    /// Makes the step of the entry that `choose` gives for these numbers, and returns the entry. `None` is returned exactly if the verdict is
+    /// not `Open`, and then the run is as it was. A run that is made by this call looks at few threads before each step, however many there
+    /// are.
+    pub fn advance(&mut self, worker: u32, a: u32, b: u32) -> Option<Entry>
+        requires { worker ≤ MAX_WORKER }
+        ensures choice { (after : Run) → IsRunOf self.old after → IsChoice self.old after worker a b result }
+        ensures made { IfSome result (λ entry. self.new ≡ record self.old { history = self.old.history ++ entry ∷ [] }) }
+        ensures same { IfNone result (self.new ≡ self.old) }
+        // The run of the entries is defined, for every engine.
+        ensures runs { (after : Run) × IsRunOf self.old after }
+    {
+        self.refresh();
+        let entry = self.choose(worker, a, b)?;
+        self.step(entry).unwrap();
+        Some(entry)
+    }
+
+    // Looks again at the threads whose choices can have changed.
+    fn refresh(&mut self)
+        ensures { self.new ≡ self.old }
+    {
+        self.machine.refresh(&self.program, &mut self.sets);
     }
 
     /// The verdict of the run so far: `Undefined` if the run was stopped, else `Complete` if all processes have ended, else
@@ -152,20 +191,23 @@ impl Engine {
 fn step_with(
     program: &Program,
     machine: &mut Machine,
+    sets: &mut AllReadySets,
     trace: &mut Trace,
     entry: Entry,
 ) -> Result<(), NotLegal>
-    requires { StandsFor program.now trace.old machine.old }
+    requires stands { StandsFor program.now trace.old machine.old }
+    requires follow { FollowAll program.now.script (has_timeouts program.now.config.format) machine.old.processes sets.old }
     ensures made { OnOk result (trace.new.history ≡ trace.old.history ++ entry ∷ []) }
     ensures legal { IsOk result ↔ (is_some (run program.now.script program.now.config (trace.old.history ++ entry ∷ [])) ≡ true) }
     ensures same { OnErr result (trace.new.history ≡ trace.old.history) }
     ensures stands { StandsFor program.now trace.new machine.new }
+    ensures follow { FollowAll program.now.script (has_timeouts program.now.config.format) machine.new.processes sets.new }
 {
     if !trace.has_room() {
         return Err(NotLegal);
     }
     let mut transition = no_change();
-    if !machine.step(program, &entry, &mut transition) {
+    if !machine.step(program, sets, &entry, &mut transition) {
         return Err(NotLegal);
     }
     trace.record_step(&entry, &transition.events);

@@ -12,3 +12,6 @@ pub mod ReadySlots
 mod LegalChoices
 mod Picks
 mod ReadyProcesses
+mod ReadPlaces
+mod FollowingLists
+pub mod ConfigLimits

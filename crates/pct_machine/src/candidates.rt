@@ -1,6 +1,6 @@
 //! The candidates of the scheduler: the threads that are ready, of one process after the other.
 
-ghost use Rattle.std.specs.Prelude.{◌≡◌, ◌+◌, ◌*◌, ◌<◌, ◌^◌, true, false, length, map, Some, is_some, IfSome};
+ghost use Rattle.std.specs.Prelude.{◌≡◌, ◌+◌, ◌*◌, ◌<◌, ◌^◌, ℕ, suc, true, false, length, map, Some, is_some, slice_get, IfSome};
 ghost use Rattle.std.specs.List.{list_all, list_any};
 ghost use Rattle.pct_model.specs.Chosen.{entry_for};
 ghost use Rattle.pct_model.specs.Formats.{has_timeouts};
@@ -10,11 +10,13 @@ ghost use Rattle.pct_process.specs.ProcessViews.{thread_on_slot};
 ghost use Rattle.pct_machine.specs.Places.{families};
 ghost use Rattle.pct_machine.specs.ProcessSteps.{CanStep, EachCanStep};
 ghost use Rattle.pct_machine.specs.Candidates.{candidates_among, pick_after, IfHere, takes_entry};
+ghost use Rattle.pct_ready_sets.specs.ReadyConditions.{FollowsAt, FollowAll};
 
 use crate::place::Place;
 use crate::processes::Processes;
 use crate::scheduler::{Draw, Pick};
 use pct_model::Entry;
+use pct_ready_sets::ReadySets;
 use pct_set::SlotSet;
 use pct_transitions::Program;
 
@@ -39,9 +41,11 @@ pub(crate) fn pick(
     program: &Program,
     processes: &Processes,
     places: &[Place],
+    sets: &[ReadySets],
     before: u32,
     draw: Draw,
 ) -> Pick
+    requires follow { FollowAll program.now.script (has_timeouts program.now.config.format) places.now sets.now }
     requires can { EachCanStep program.now.config.slots places.now }
     requires made { processes.now.made + 1 < 2 ^ 32 }
     requires few { before + 64 * length places.now < 2 ^ 32 }
@@ -54,8 +58,15 @@ pub(crate) fn pick(
         }
         return Pick::Before(draw.thread % before);
     };
-    let ready = ready(program, processes, place);
-    let index = match pick(program, processes, rest, before + ready.len(), draw) {
+    let ready = ready(program, processes, place, sets);
+    let index = match pick(
+        program,
+        processes,
+        rest,
+        after_first(sets),
+        before + ready.len(),
+        draw,
+    ) {
         Pick::Here(entry) => return Pick::Here(entry),
         Pick::Before(index) => index,
     };
@@ -68,12 +79,27 @@ pub(crate) fn pick(
     }
 }
 
-// The slots of the threads of a process that are ready.
-fn ready(program: &Program, processes: &Processes, place: &Place) -> SlotSet
-    requires { processes.now.made + 1 < 2 ^ 32 }
+// The slots of the threads of a process that are ready, by the first of these sets, if there is one.
+fn ready(program: &Program, processes: &Processes, place: &Place, sets: &[ReadySets]) -> SlotSet
+    requires made { processes.now.made + 1 < 2 ^ 32 }
+    requires follows { FollowsAt program.now.script (has_timeouts program.now.config.format) place.now 0 sets.now }
     ensures { map (thread_on_slot place.now.slots) result ≡ map (λ t. Some t) (ready_in program.now.script (has_timeouts program.now.config.format) (length place.now.slots) (families processes.now place.now.pid) place.now) }
 {
-    place.ready(processes.around(program, place.pid()))
+    let around = processes.around(program, place.pid());
+    match sets.first() {
+        None => place.ready(around),
+        Some(own) => place.ready_by(around, own),
+    }
+}
+
+// The sets after the first one.
+fn after_first(sets: &[ReadySets]) -> &[ReadySets]
+    ensures { (i : ℕ) → slice_get result.now i ≡ slice_get sets.now (suc i) }
+{
+    match sets.split_first() {
+        None => sets,
+        Some((_, others)) => others,
+    }
 }
 
 // The entry that a worker's numbers choose for the thread on a slot of a process, which has not ended.

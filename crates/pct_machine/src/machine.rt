@@ -6,6 +6,7 @@ use crate::processes::Processes;
 use crate::scheduler::{Draw, Pick};
 use pct_io::NoMemory;
 use pct_model::{Entry, MAX_WORKER, Script, Transition, Verdict, Why};
+use pct_ready_sets::AllReadySets;
 use pct_transitions::Program;
 use std::alloc::Global;
 use std::marker::Model;
@@ -35,7 +36,9 @@ impl Machine {
     ghost use Rattle.pct_engine_laws.specs.SeenSteps.{seen_chosen, seen_verdict};
     ghost use Rattle.pct_machine.specs.ProcessSteps.{AllCanStep, some_if};
     ghost use Rattle.pct_machine.specs.MachineSteps.{legal_transition};
+    ghost use Rattle.pct_model.specs.Formats.{has_timeouts};
     ghost use Rattle.pct_machine.specs.ShownProcesses.{ShowsIfSome};
+    ghost use Rattle.pct_ready_sets.specs.ReadyConditions.{FollowAll};
 
     /// The state before the first step, with 1 to 64 thread slots. `NoMemory` is returned if the tables of eight processes do not fit into
     /// memory: no other call takes memory.
@@ -51,11 +54,18 @@ impl Machine {
     }
 
     /// Makes the step of an entry, and writes the transition that it takes to `transition`. The result is false exactly if the entry is
-    /// not legal, and then the machine is as it was.
-    pub fn step(&mut self, program: &Program, entry: &Entry, transition: &mut Transition) -> bool
+    /// not legal, and then the machine is as it was. The slots that the step touches become stale.
+    pub fn step(
+        &mut self,
+        program: &Program,
+        sets: &mut AllReadySets,
+        entry: &Entry,
+        transition: &mut Transition,
+    ) -> bool
         requires { AllCanStep program.now.config.slots self.old.processes self.old.made }
         ensures legal { legal_transition program.now.script program.now.config self.old entry.now ≡ some_if result transition.new }
         ensures made { self.new ≡ (if result then seen_after program.now.config.slots entry.now.pid entry.now.tid transition.new self.old else self.old) }
+        ensures follow { FollowAll program.now.script (has_timeouts program.now.config.format) self.old.processes sets.old → FollowAll program.now.script (has_timeouts program.now.config.format) self.new.processes sets.new }
     {
         if self.stop.is_some() || entry.worker > MAX_WORKER {
             return false;
@@ -63,6 +73,7 @@ impl Machine {
         if !self.processes.step(program, entry, transition) {
             return false;
         }
+        sets.mark(program.config.slots, entry.tid, transition);
         self.processes
             .change(entry.pid, entry.tid, transition.process);
         self.stop = transition.stop;
@@ -90,8 +101,9 @@ impl Machine {
 
     /// The entry that a worker's numbers choose: one chooses a thread that is ready, the other one of its choices. It is legal for a
     /// worker within the limit. `None` exactly if the run was stopped or no thread is ready.
-    pub fn chosen(&self, program: &Program, draw: Draw) -> Option<Entry>
-        requires { AllCanStep program.now.config.slots self.now.processes self.now.made }
+    pub fn chosen(&self, program: &Program, sets: &AllReadySets, draw: Draw) -> Option<Entry>
+        requires can { AllCanStep program.now.config.slots self.now.processes self.now.made }
+        requires follow { FollowAll program.now.script (has_timeouts program.now.config.format) self.now.processes sets.now }
         ensures value { result ≡ seen_chosen program.now.script program.now.config self.now draw.worker draw.thread draw.choice }
         ensures legal { draw.worker ≤ MAX_WORKER → IfSome result (λ e. is_some (legal_transition program.now.script program.now.config self.now e) ≡ true) }
     {
@@ -99,9 +111,20 @@ impl Machine {
             return None;
         }
         let places = self.processes.as_slice();
-        match pick(program, &self.processes, places, 0, draw) {
+        match pick(program, &self.processes, places, sets.as_slice(), 0, draw) {
             Pick::Here(entry) => entry,
             Pick::Before(_) => None,
+        }
+    }
+
+    /// Looks again at the slots that are stale.
+    pub fn refresh(&self, program: &Program, sets: &mut AllReadySets)
+        requires { FollowAll program.now.script (has_timeouts program.now.config.format) self.now.processes sets.old }
+        ensures { FollowAll program.now.script (has_timeouts program.now.config.format) self.now.processes sets.new }
+    {
+        let places = self.processes.as_slice();
+        for index in 0..places.len() {
+            places[index].refresh(program, sets, index);
         }
     }
 

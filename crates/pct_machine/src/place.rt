@@ -6,8 +6,9 @@ use pct_actions::make;
 use pct_io::NoMemory;
 use pct_model::{Entry, ProcessAction, Relative, Script, Transition};
 use pct_process::ProcessState;
+use pct_ready_sets::{AllReadySets, ReadySets, ready_slots as ready_by_sets};
 use pct_set::SlotSet;
-use pct_transitions::{Surroundings, choice_by, transition_if_offered};
+use pct_transitions::{Program, Surroundings, choice_by, transition_if_offered};
 use std::alloc::Global;
 use std::marker::Model;
 
@@ -28,7 +29,7 @@ impl Model for Place {
 }
 
 impl Place {
-    ghost use Rattle.std.specs.Prelude.{◌≡◌, ◌≤◌, true, false, ◌&&◌, nat_eq, [], ◌∷◌, length, map, Some, is_some, if◌then◌else◌, IfOk, IfSome};
+    ghost use Rattle.std.specs.Prelude.{◌≡◌, ◌≢◌, ◌≤◌, ℕ, slice_get, true, false, ◌&&◌, nat_eq, [], ◌∷◌, length, map, Some, is_some, if◌then◌else◌, IfOk, IfSome};
     ghost use Rattle.pct_model.specs.Chosen.{entry_for};
     ghost use Rattle.pct_model.specs.declared.limits.TheConstants.{MAX_SLOTS};
     ghost use Rattle.pct_model.specs.Formats.{has_timeouts};
@@ -42,6 +43,7 @@ impl Place {
     ghost use Rattle.pct_machine.specs.ListChanges.{process_changed};
     ghost use Rattle.pct_machine.specs.ProcessSteps.{CanStep, HasThread, taken_in, some_if};
     ghost use Rattle.pct_machine.specs.ShownProcesses.{ShowsProcess};
+    ghost use Rattle.pct_ready_sets.specs.ReadyConditions.{Follows, FollowsAt};
 
     /// The first process before the first step, with 1 to 64 thread slots. `NoMemory` is returned if its tables do not fit into memory.
     pub fn first(alloc: Global, script: &Script, slots: u32) -> Result<Place, NoMemory>
@@ -107,6 +109,26 @@ impl Place {
             return SlotSet::new();
         }
         ready_slots(around, &self.state)
+    }
+
+    /// The same, by the sets of its slots.
+    pub fn ready_by(&self, around: Surroundings, sets: &ReadySets) -> SlotSet
+        requires { Follows around.program.now.script (has_timeouts around.program.now.config.format) self.now sets.now }
+        ensures { map (thread_on_slot self.now.slots) result ≡ map (λ t. Some t) (ready_in around.entry.program.now.script (has_timeouts around.entry.program.now.config.format) (length self.now.slots) (other_processes around.entry.family) self.now) }
+    {
+        if self.has_ended() {
+            return SlotSet::new();
+        }
+        ready_by_sets(around, &self.state, sets)
+    }
+
+    /// Looks again at the slots that are stale, where this process is on a place.
+    pub fn refresh(&self, program: &Program, sets: &mut AllReadySets, place: usize)
+        requires { FollowsAt program.now.script (has_timeouts program.now.config.format) self.now place sets.old }
+        ensures here { FollowsAt program.now.script (has_timeouts program.now.config.format) self.now place sets.new }
+        ensures others { (i : ℕ) → i ≢ place → slice_get sets.new i ≡ slice_get sets.old i }
+    {
+        sets.refresh(place, program, &self.state);
     }
 
     /// Whether a thread is ready.

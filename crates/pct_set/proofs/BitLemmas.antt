@@ -1,6 +1,6 @@
 -- The operations of `SlotSet` on bits are those on sets of slots.
-use Rattle.std.proofs.Common.{◌≡◌, refl, sym, ap, ◌∙◌, ℕ, zero, suc, ◌+◌, ◌*◌, ◌/◌, ◌%◌, ◌^◌, ◌<◌, ◌⊎◌, List, [], ◌∷◌, length, nat_eq, inl, inr, arith, w64, bit_and, bit_or, count_ones, drop, get_or, slice_get, Some, length-drop}
-use Rattle.std.proofs.lemmas.Bool.{cases_eq, ne_eqb, eq-eqb}
+use Rattle.std.proofs.Common.{◌≡◌, refl, sym, ap, ◌∙◌, ℕ, zero, suc, true, ◌+◌, ◌-◌, ◌*◌, ◌/◌, ◌%◌, ◌^◌, ◌<◌, ◌⊎◌, List, [], ◌∷◌, length, nat_eq, inl, inr, arith, w64, bit_and, bit_or, count_ones, drop, get_or, slice_get, Some, length-drop}
+use Rattle.std.proofs.lemmas.Bool.{cases_eq, ne_eqb, eq-eqb, agree_below_at}
 use Rattle.std.proofs.Math.Nat.{eq-zero-or-pos}
 use Rattle.std.proofs.lemmas.List.{drop_more}
 use Rattle.std.proofs.lemmas.Nat.{ones_cat, or_lt}
@@ -35,6 +35,10 @@ or_small a b = or_lt 64 a b
 pub empty : slots_of 0 ≡ []
 unfolding slots_where
 empty = refl
+
+-- all bits are the set of all slots
+pub full : slots_of (2 ^ 64 - 1) ≡ slots_where (λ _. true)
+full = slots_agree (has_bit (2 ^ 64 - 1)) (λ _. true) (λ s small. agree_below_at (has_bit (2 ^ 64 - 1)) (λ _. true) 64 s refl small)
 
 -- `contains`
 pub tested : (b s : ℕ) → s < 64 → nat_eq (bit_and (b / 2 ^ s) 1) 1 ≡ has_slot (slots_of b) s

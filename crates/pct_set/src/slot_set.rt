@@ -1,7 +1,7 @@
 //! A set of slots in one word: slot `s` is in the set if bit `s` is set. A contract sees the list of the slots in rising
 //! order.
 
-ghost use Rattle.std.specs.Prelude.{◌≡◌, ◌<◌, ◌≤◌, [], length, All, IfSome, slice_get};
+ghost use Rattle.std.specs.Prelude.{◌≡◌, ◌<◌, ◌≤◌, true, [], length, All, IfSome, slice_get};
 ghost use Rattle.std.specs.List.Sorted.{IsStrictlyIncreasing};
 ghost use Rattle.pct_set.specs.Slots.{slots_where, has_slot, with_slot, without_slot, union_of, difference_of};
 
@@ -36,6 +36,14 @@ impl SlotSet {
         ensures { result ≡ [] }
     {
         SlotSet { bits: 0 }
+    }
+
+    /// The set of all slots.
+    #[tactic(auto, using(crate::proofs::BitLemmas::full))]
+    pub fn all() -> SlotSet
+        ensures { result ≡ slots_where (λ _. true) }
+    {
+        SlotSet { bits: u64::MAX }
     }
 
     /// Adds a slot, which must be below 64. A slot that is in the set stays in it.

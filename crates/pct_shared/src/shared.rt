@@ -228,9 +228,8 @@ fn use_turn(desk: &Desk, seat: &mut Chair, mut engine: Box<Engine>, choice: Choi
     ensures table { seat.new.table_id ≡ seat.old.table_id }
     ensures turn { (v : View) → HasLifted v seat.old.me engine.value → HasTakenTurn v seat.new.me choice.a choice.b result }
 {
-    match engine.choose(choice.number, choice.a, choice.b) {
+    match engine.advance(choice.number, choice.a, choice.b) {
         Some(entry) => {
-            engine.step(entry).unwrap();
             give_turn(desk, seat, engine);
             Turn::Did(entry)
         }

@@ -9,4 +9,4 @@ mod threads;
 
 pub use record::{Place, Thread};
 pub use row::MAX_DEPTH;
-pub use threads::Threads;
+pub use threads::{Threads, slot_of};

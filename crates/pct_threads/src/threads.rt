@@ -2,6 +2,7 @@
 
 ghost use Rattle.std.specs.Prelude.{◌≡◌, ◌<◌, ◌≤◌, ◌&&◌, not, true, nat_lt, length, map, if◌then◌else◌, vec_capacity};
 ghost use Rattle.pct_model.specs.declared.limits.TheConstants.{MAX_SLOTS};
+ghost use Rattle.pct_model.specs.ThreadSlots.{slot_of};
 ghost use Rattle.pct_threads.specs.Slots.{freed};
 ghost use Rattle.pct_set.specs.Slots.{with_slot, without_slot};
 
@@ -86,10 +87,7 @@ impl Threads {
         ensures within { result < length self.now }
         ensures few { length self.now ≤ MAX_SLOTS }
     {
-        let index = id.saturating_sub(1);
-        let count = self.slot_count();
-        // A division is dear, and few ids are above the number of slots.
-        if index < count { index } else { index % count }
+        slot_of(self.slot_count(), id)
     }
 
     /// Whether the slot is occupied.
@@ -393,4 +391,15 @@ fn retain_if(set: &mut SlotSet, slot: u32, test: bool)
     if !test {
         set.remove(slot);
     }
+}
+
+/// The slot of a thread id in a table of this many slots: the id less 1, modulo the number of slots.
+pub fn slot_of(slots: u32, id: u32) -> u32
+    requires { 1 ≤ slots }
+    ensures value { result ≡ slot_of slots id }
+    ensures within { result < slots }
+{
+    let index = id.saturating_sub(1);
+    // A division is dear, and few ids are above the number of slots.
+    if index < slots { index } else { index % slots }
 }

@@ -9,4 +9,4 @@ pub mod EnvironmentRead
 pub mod WaitersRead
 pub mod ProcessReads
 mod OfferedLists
-pub mod EnabledThreads
+pub mod ReadyThreads

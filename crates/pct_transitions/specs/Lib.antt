@@ -6,3 +6,4 @@ pub mod OtherThreads
 pub mod Contexts
 pub mod Listed
 pub mod ProcessSteps
+pub mod Readiness

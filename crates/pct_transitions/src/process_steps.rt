@@ -10,15 +10,11 @@ ghost use Rattle.pct_process.specs.FamilyViews.{other_processes};
 ghost use Rattle.pct_process.specs.ProcessViews.{thread_on_slot};
 ghost use Rattle.pct_transitions.specs.ProcessSteps.{with_data, NewNumbersFit, ForksHaveRoom, Takes};
 
-use crate::cancel_calls::may_pass_point;
 use crate::choice_table::choices_at;
 use crate::context::{Context, Surroundings};
-use crate::enabled_threads::{
-    count_in, expires_or_acts, goes_expires_or_acts, goes_or_acts, has_ended, may_expire,
-    reacquires_or_acts, record_of, runs_on,
-};
+use crate::readiness::{is_met, ready_when};
 use crate::transition_table::transition_by;
-use pct_model::{Alt, Status, Transition};
+use pct_model::{Alt, Transition};
 use pct_process::ProcessState;
 
 // ---- choices
@@ -28,28 +24,7 @@ pub fn has_choice(around: Surroundings, process: &ProcessState, slot: u32) -> bo
     requires { is_some (thread_on_slot process.now.slots slot) ≡ true }
     ensures { (t : Thread) → thread_on_slot process.now.slots slot ≡ Some t → result ≡ is_ready_in around.entry.program.now.script (has_timeouts around.entry.program.now.config.format) (length process.now.slots) (other_processes around.entry.family) (with_data process.now) t }
 {
-    let thread = record_of(process, slot);
-    match thread.status {
-        Status::Running => runs_on(around.program, process, slot, &thread.cancel),
-        Status::Waiting(_, _) => {
-            expires_or_acts(may_expire(around.program, process, slot), &thread.cancel)
-        }
-        Status::Reacquire(_, mutex, cause) => {
-            reacquires_or_acts(process, mutex, cause, &thread.cancel)
-        }
-        Status::AtPoint(index) => goes_or_acts(may_pass_point(index), &thread.cancel),
-        Status::Joining(id) => goes_or_acts(has_ended(process, id), &thread.cancel),
-        Status::InSem(sem) => goes_expires_or_acts(
-            count_in(process, sem) > 0,
-            may_expire(around.program, process, slot),
-            &thread.cancel,
-        ),
-        Status::InWaitPid(pid) => {
-            goes_or_acts(!around.family.is_running_child(pid), &thread.cancel)
-        }
-        Status::Ending | Status::Forking(_) | Status::Exiting => true,
-        Status::Ended(_) => false,
-    }
+    is_met(around, process, ready_when(around.program, process, slot))
 }
 
 /// The choice of the thread on a slot that a number chooses, modulo the number of its choices. `None` exactly if it has none.

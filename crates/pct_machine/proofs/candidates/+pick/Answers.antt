@@ -3,6 +3,7 @@ use Rattle.pct_names.proofs.Names.{subst, suc, sym, Thread, ◌∙◌}
 use Rattle.pct_engine_laws.specs.Seen.{SeenProcess}
 use Rattle.pct_engine_laws.specs.SeenSteps.{candidate_in}
 use Rattle.pct_process.specs.ProcessViews.{thread_on_slot}
+use Rattle.pct_ready_sets.specs.ReadyConditions.{FollowAll}
 use Rattle.pct_machine.specs.declared.scheduler.Pick.TheVariants.{Here}
 use Rattle.pct_machine.specs.Places.{families}
 use Rattle.pct_machine.specs.ProcessSteps.{EachCanStep}
@@ -22,10 +23,23 @@ returns-in_default-clause-value t c =
     one_before c.args.before c.args.draw (omega (arith, c.if-before-eq0.false))
     ∙ ap (λ (ps : List SeenProcess). pick_after c.args.before c.args.draw (candidates_among c.args.program.now.script (has_timeouts c.args.program.now.config.format) (families c.args.processes.now) ps)) (sym (nil_from_length c.args.places.now c.in_default.ensures.cases))
 
+pub ready-ready-requires-clause-follows : goal.ready-ready-requires-clause-follows
+ready-ready-requires-clause-follows t c =
+    subst (λ (ps : List SeenProcess). FollowAll c.args.program.now.script (has_timeouts c.args.program.now.config.format) ps c.args.sets.now) c.in-Some.ensures.cases.0 c.requires.follow 0 c.in-Some.place.now refl
+
 pub pick-requires : goal.pick-requires
 pick-requires t c =
     let can = subst (EachCanStep c.args.program.now.config.slots) c.in-Some.ensures.cases.0 c.requires.can in
-    (omega (arith, c.decreases, c.in-Some.ensures.cases.1), ((λ i p at. can (suc i) p at), omega (arith, c.requires.few, c.len.ensures.fits, c.in-Some.ensures.cases.1)))
+    let follow = subst (λ (ps : List SeenProcess). FollowAll c.args.program.now.script (has_timeouts c.args.program.now.config.format) ps c.args.sets.now) c.in-Some.ensures.cases.0 c.requires.follow in (
+      omega (arith, c.decreases, c.in-Some.ensures.cases.1),
+      (
+        (λ i p at v has. follow (suc i) p at v (sym (c.after_first.ensures i) ∙ has)),
+        (
+          (λ i p at. can (suc i) p at),
+          (c.requires.made, omega (arith, c.requires.few, c.len.ensures.fits, c.in-Some.ensures.cases.1)),
+        ),
+      ),
+    )
 
 pub returns-in-Here-clause-value : goal.returns-in-Here-clause-value
 returns-in-Here-clause-value t c =

@@ -1,6 +1,6 @@
 use Rattle.pct_names.proofs.Names.{length}
-use Rattle.pct_engine.proofs.ReachedStates.{slots_within}
 use Rattle.pct_engine_laws.proofs.LongerRuns.{run_parts}
+use Rattle.pct_machine.proofs.ConfigLimits.{slots_within}
 use Rattle.pct_view_texts.proofs.StateTexts.{all_text}
 use Rattle.pct_view_texts.proofs.states.push_states.Goals as goal
 

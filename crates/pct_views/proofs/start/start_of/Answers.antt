@@ -1,7 +1,7 @@
 use Rattle.pct_names.proofs.Names.{sym, ◌∙◌}
-use Rattle.pct_engine.proofs.ReachedStates.{slots_within}
 use Rattle.pct_engine_laws.proofs.LongerRuns.{run_parts}
 use Rattle.pct_view_laws.proofs.StartSeen.{start_is_seen}
+use Rattle.pct_machine.proofs.ConfigLimits.{slots_within}
 use Rattle.pct_views.proofs.start.start_of.Goals as goal
 
 pub returns : goal.returns

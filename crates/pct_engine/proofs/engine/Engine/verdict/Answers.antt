@@ -6,7 +6,7 @@ use Rattle.pct_engine.proofs.ReachedStates.{stands_can_step}
 use Rattle.pct_engine.proofs.engine.Engine.verdict.Goals as goal
 
 pub verdict-requires : goal.verdict-requires
-verdict-requires c = let e = c.self.inside in stands_can_step e.program e.trace e.machine c.self.invariant
+verdict-requires c = let e = c.self.inside in stands_can_step e.program e.trace e.machine c.self.invariant.0
 
 pub returns-clause-value : goal.returns-clause-value
 returns-clause-value c =
@@ -15,4 +15,4 @@ returns-clause-value c =
     (λ after is.
     c.verdict.ensures
     ∙ ap (λ (entries : List Entry). seen_verdict e.program.script e.program.config e.machine (length entries)) c.history.ensures.value
-    ∙ verdict_after e.program e.trace e.machine c.self.invariant after is (length e.trace.history))
+    ∙ verdict_after e.program e.trace e.machine c.self.invariant.0 after is (length e.trace.history))

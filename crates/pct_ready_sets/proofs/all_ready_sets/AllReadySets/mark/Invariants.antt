@@ -1,0 +1,9 @@
+use Rattle.pct_names.proofs.Names.{◌≡◌, ◌++◌, map, take, drop}
+use Rattle.pct_ready_sets.specs.ReadyGroups.{with_stale, all_stale}
+use Rattle.pct_ready_sets.proofs.all_ready_sets.AllReadySets.mark.Given as goal
+
+abbrev pub invariant-loop-sets : goal.invariant-loop-sets
+invariant-loop-sets l = l.sets-items ≡ map all_stale (take l.sets-index l.fn.self) ++ drop l.sets-index l.fn.self
+
+abbrev pub invariant-loop-sets-else-is_some : goal.invariant-loop-sets-else-is_some
+invariant-loop-sets-else-is_some l = l.sets-items ≡ map (with_stale l.touched) (take l.sets-index l.fn.self) ++ drop l.sets-index l.fn.self

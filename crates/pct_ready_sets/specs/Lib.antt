@@ -1,0 +1,2 @@
+pub mod ReadyGroups
+pub mod ReadyConditions

@@ -1,0 +1,85 @@
+//! The sets of slots of all processes of a machine.
+
+ghost use Rattle.std.specs.Prelude.{◌≡◌};
+
+use crate::ready_sets::ReadySets;
+use crate::refreshing::refresh;
+use crate::touched_slots::touched_slots;
+use pct_io::NoMemory;
+use pct_model::{MAX_PROCESSES, Transition};
+use pct_process::ProcessState;
+use pct_transitions::Program;
+use std::alloc::Global;
+use std::marker::Model;
+
+/// The sets of slots of the processes of a machine, by the places of the processes. In a contract it is the list of them.
+#[derive(Drop)]
+pub struct AllReadySets {
+    sets: Vec<ReadySets>,
+}
+
+impl Model for AllReadySets {
+    ghost use Rattle.std.specs.Prelude.{List};
+    ghost use Rattle.pct_ready_sets.specs.ReadyGroups.{ReadyValue};
+
+    ghost Value = { List ReadyValue };
+
+    ghost view = { λ all. all.sets.items };
+}
+
+impl AllReadySets {
+    ghost use Rattle.std.specs.Prelude.{◌≡◌, ◌≢◌, ◌≤◌, ℕ, map, replicate, slice_get, IfOk};
+    ghost use Rattle.pct_model.specs.Formats.{has_timeouts};
+    ghost use Rattle.pct_model.specs.declared.limits.TheConstants.{MAX_PROCESSES, MAX_SLOTS};
+    ghost use Rattle.pct_transitions.specs.ProcessSteps.{with_data};
+    ghost use Rattle.pct_ready_sets.specs.ReadyConditions.{marked, FollowsAt};
+    ghost use Rattle.pct_ready_sets.specs.ReadyGroups.{unknown};
+
+    /// The sets of eight processes, of which nothing is known. `NoMemory` is returned if they do not fit into memory.
+    pub fn new(alloc: Global) -> Result<AllReadySets, NoMemory>
+        ensures { IfOk result (λ all. all ≡ replicate MAX_PROCESSES unknown) }
+    {
+        let mut sets = Vec::with_capacity(alloc, MAX_PROCESSES)?;
+        for _ in 0..MAX_PROCESSES {
+            sets.push(ReadySets::new(alloc)?)?;
+        }
+        Ok(AllReadySets { sets })
+    }
+
+    /// The sets, by place.
+    pub fn as_slice(&self) -> &[ReadySets]
+        ensures { result.now ≡ self.now }
+    {
+        self.sets.as_slice()
+    }
+
+    /// Looks again at the slots of the process on a place that are stale.
+    pub fn refresh(&mut self, place: usize, program: &Program, process: &ProcessState)
+        requires { FollowsAt program.now.script (has_timeouts program.now.config.format) (with_data process.now) place self.old }
+        ensures here { FollowsAt program.now.script (has_timeouts program.now.config.format) (with_data process.now) place self.new }
+        ensures others { (i : ℕ) → i ≢ place → slice_get self.new i ≡ slice_get self.old i }
+    {
+        if place < self.sets.len() {
+            refresh(program, process, &mut self.sets[place]);
+        }
+    }
+
+    /// The slots become stale that a transition of the thread with an id touches, in processes with 1 to 64 slots; each slot does, if the
+    /// transition changes the list of processes.
+    pub fn mark(&mut self, slots: u32, tid: u32, transition: &Transition)
+        requires some { 1 ≤ slots }
+        requires few { slots ≤ MAX_SLOTS }
+        ensures { self.new ≡ map (marked slots tid transition.now) self.old }
+    {
+        if transition.process.is_some() {
+            for sets in self.sets.iter_mut() {
+                sets.mark_all();
+            }
+        } else {
+            let touched = touched_slots(slots, tid, transition);
+            for sets in self.sets.iter_mut() {
+                sets.mark(&touched);
+            }
+        }
+    }
+}

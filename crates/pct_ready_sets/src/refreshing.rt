@@ -1,0 +1,48 @@
+//! Looking again at the slots that are stale.
+
+ghost use Rattle.std.specs.Prelude.{◌≡◌, ◌<◌};
+ghost use Rattle.pct_model.specs.Formats.{has_timeouts};
+ghost use Rattle.pct_transitions.specs.ProcessSteps.{with_data};
+ghost use Rattle.pct_ready_sets.specs.ReadyConditions.{condition_of_slot, Follows};
+
+use crate::ready_sets::ReadySets;
+use pct_process::ProcessState;
+use pct_transitions::{Program, ReadyWhen, ready_when};
+
+/// Looks again at each slot that is stale.
+pub(crate) fn refresh(program: &Program, process: &ProcessState, sets: &mut ReadySets)
+    requires { Follows program.now.script (has_timeouts program.now.config.format) (with_data process.now) sets.old }
+    ensures { Follows program.now.script (has_timeouts program.now.config.format) (with_data process.now) sets.new }
+{
+    let mut rest = sets.stale();
+    // A set is determined by its slots.
+    let _count = rest.len();
+    while let Some(slot) = rest.nth(0) {
+        refresh_slot(program, process, sets, slot);
+        rest.remove(slot);
+    }
+}
+
+// Looks again at a slot.
+fn refresh_slot(program: &Program, process: &ProcessState, sets: &mut ReadySets, slot: u32)
+    requires slot { slot < 64 }
+    requires follows { Follows program.now.script (has_timeouts program.now.config.format) (with_data process.now) sets.old }
+    ensures { Follows program.now.script (has_timeouts program.now.config.format) (with_data process.now) sets.new }
+{
+    // There are 64 conditions.
+    let _stale = sets.stale();
+    let condition = condition_of(program, process, slot);
+    sets.put(slot, condition);
+}
+
+// The condition under which the thread on a slot has a choice; without a thread none ever has.
+fn condition_of(program: &Program, process: &ProcessState, slot: u32) -> ReadyWhen
+    requires { slot < 64 }
+    ensures { result ≡ condition_of_slot program.now.script (has_timeouts program.now.config.format) (with_data process.now) slot }
+{
+    if process.occupied().contains(slot) {
+        ready_when(program, process, slot)
+    } else {
+        ReadyWhen::Never
+    }
+}
