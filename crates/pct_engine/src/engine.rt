@@ -116,20 +116,25 @@ impl Engine {
         ensures choice { (after : Run) → IsRunOf self.old after → IsChoice self.old after worker a b result }
         ensures made { IfSome result (λ entry. self.new ≡ record self.old { history = self.old.history ++ entry ∷ [] }) }
         ensures same { IfNone result (self.new ≡ self.old) }
+        // Of every legal schedule, as of `step`.
+        ensures laws { (after : Run) → IsRunOf self.new after → KeepsLaws self.new after }
         // The run of the entries is defined, for every engine.
         ensures runs { (after : Run) × IsRunOf self.old after }
     {
-        self.refresh();
-        let entry = self.choose(worker, a, b)?;
-        self.step(entry).unwrap();
+        if !self.trace.has_room() {
+            return None;
+        }
+        let draw = Draw {
+            worker,
+            thread: a,
+            choice: b,
+        };
+        let mut transition = no_change();
+        let entry = self
+            .machine
+            .advance(&self.program, &mut self.sets, draw, &mut transition)?;
+        self.trace.record_step(&entry, &transition.events);
         Some(entry)
-    }
-
-    // Looks again at the threads whose choices can have changed.
-    fn refresh(&mut self)
-        ensures { self.new ≡ self.old }
-    {
-        self.machine.refresh(&self.program, &mut self.sets);
     }
 
     /// The verdict of the run so far: `Undefined` if the run was stopped, else `Complete` if all processes have ended, else

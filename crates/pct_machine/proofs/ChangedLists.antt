@@ -1,13 +1,15 @@
 -- The list of processes after a transition, by the change that it makes.
 use Rattle.pct_names.proofs.Names.{◌+◌, ◌++◌, [], ap, Bool, cond, false, flat_map, flat_map-map, flat_map_single, length, List, map, map-id}
 use Rattle.pct_names.proofs.Names.{None, Option, option_map_or, ProcessAction, refl, Some, sym, Transition, true, ℕ, ◌∙◌, ◌∷◌, ◌≡◌}
+use Rattle.pct_names.proofs.Names.{is_some, stop_after, Why}
 use Rattle.std.proofs.Common.{append-nil, add-zero}
+use Rattle.std.proofs.lemmas.Bool.{true≢false}
 use Rattle.pct_model.specs.declared.transition.ProcessAction.TheVariants as process_action
 use Rattle.pct_engine_laws.specs.Seen.{SeenProcess, own_kept, other_kept, own_process_seen, other_process_seen, is_live_seen, child_seen_by}
-use Rattle.pct_engine_laws.specs.Seen.{children_seen, process_seen, processes_kept}
+use Rattle.pct_engine_laws.specs.Seen.{children_seen, process_seen, processes_kept, seen_after}
 use Rattle.pct_engine_laws.proofs.ListFacts.{flat_map_agree}
 use Rattle.pct_machine.specs.Places.{ProcessList}
-use Rattle.pct_machine.specs.ListChanges.{process_moved, list_moved, process_changed, list_changed}
+use Rattle.pct_machine.specs.ListChanges.{process_moved, list_moved, process_changed, list_changed, seen_finished}
 
 -- what is kept of a process after a change, if there is one
 abbrev kept_by : ℕ → Option ProcessAction → SeenProcess → List SeenProcess
@@ -72,3 +74,18 @@ module _ (slots pid tid : ℕ) (o : Transition) where
       let children : flat_map (made_by pid tid o.process) (map next ps) ≡ children_seen slots pid tid o ps = flat_map-map (made_by pid tid o.process) next ps ∙ sym (flat_map_agree (λ p. cond (is_live_seen pid p) (child_seen_by tid (process_seen slots tid o p) o.process) []) (λ p. made_by pid tid o.process (next p)) made_is ps) in
       sym (list_by pid tid o.process (list_moved slots pid tid o list))
       ∙ (λ i. record { processes = kept i ++ children i; made = list.made + length (children i) })
+
+-- a run that was not stopped before stops for the reason of the transition
+stop_is : (why stop : Option Why) → is_some stop ≡ false → why ≡ stop_after why stop
+unfolding stop_after
+stop_is (Some why) stop running = refl
+stop_is None None running = refl
+stop_is None (Some before) running = absurd (true≢false running)
+
+-- a run that was not stopped, after a transition of a thread
+pub finished : (slots pid tid : ℕ) (o : Transition) (list moved : ProcessList) (stop : Option Why) → is_some stop ≡ false → moved ≡ list_moved slots pid tid o list
+    → seen_finished pid tid o (record { processes = moved.processes; made = moved.made; stop = stop }) ≡ seen_after slots pid tid o (record { processes = list.processes; made = list.made; stop = stop })
+unfolding seen_after
+finished slots pid tid o list moved stop running is =
+    let after = ap (list_changed pid tid o.process) is ∙ list_after slots pid tid o list in
+    λ i. record { processes = (after i).processes; made = (after i).made; stop = stop_is o.stop stop running i }

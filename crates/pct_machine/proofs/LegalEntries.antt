@@ -1,17 +1,17 @@
 -- The entries that a machine accepts are those that are legal.
-use Rattle.pct_names.proofs.Names.{◌&&◌, ◌<◌, [], and_from, and_parts, ap, arith, Bool, cond, cond-true, Config, Entry, false, false≢true}
-use Rattle.pct_names.proofs.Names.{Family, find, find_at, get_or, get_or-take, get_or_from_slice_get, is_none, is_some, length, length-take}
-use Rattle.pct_names.proofs.Names.{List, list_any, nat_eq, nat_le, nat_lt, None, none-some, not, Option, option_and_then, position}
+use Rattle.pct_names.proofs.Names.{◌&&◌, ◌<◌, [], and_from, and_parts, ap, arith, Bool, cond, cond-true, Config, Entry, false}
+use Rattle.pct_names.proofs.Names.{find, find_at, get_or, get_or-take, get_or_from_slice_get, IfSome, is_none, is_some, length}
+use Rattle.pct_names.proofs.Names.{length-take}
+use Rattle.pct_names.proofs.Names.{List, nat_eq, nat_le, nat_lt, None, none-some, not, Option, option_and_then, position}
 use Rattle.pct_names.proofs.Names.{position-Some, position_or_len, refl, same_Some, Script, slice_get, slice_get-get_or, slice_get_past}
-use Rattle.pct_names.proofs.Names.{Some, subst, sym, take, Transition, true, ◌||◌, ℕ, ◌∙◌, ◌∷◌, ◌≡◌, ◌≤◌}
-use Rattle.std.proofs.Math.Bool.{or-false}
+use Rattle.pct_names.proofs.Names.{Some, subst, sym, take, Transition, true, ℕ, ◌∙◌, ◌∷◌, ◌≡◌, ◌≤◌}
 use Rattle.std.proofs.lemmas.Bool.{eqb-true, ne_eqb, ltb-false, le-leb}
-use Rattle.pct_engine_laws.specs.Seen.{SeenProcess, Seen, is_live_seen, family_in}
+use Rattle.pct_engine_laws.specs.Seen.{SeenProcess, Seen, is_live_seen}
 use Rattle.pct_engine_laws.specs.SeenSteps.{seen_transition}
 use Rattle.pct_machine.specs.ProcessSteps.{taken_in}
-use Rattle.pct_machine.specs.Places.{ProcessList, families, RiseWithin}
+use Rattle.pct_machine.specs.Places.{ProcessList, families}
 use Rattle.pct_machine.specs.ListChanges.{taken_among}
-use Rattle.pct_machine.specs.Candidates.{takes_entry}
+use Rattle.pct_machine.specs.Candidates.{takes_in}
 use Rattle.pct_machine.specs.MachineSteps.{legal_transition}
 
 -- a process with another id
@@ -91,40 +91,26 @@ module _ (script : Script) (config : Config) (list : ProcessList) (e : Entry) wh
       ap (option_and_then (λ q. taken_in script config (families list q.pid) q e)) found
       ∙ ap (λ (pid : ℕ). taken_in script config (families list pid) p e) (named e.pid p live)
 
+-- the entry that was chosen takes what it takes of its process
+pub chosen_takes : (script : Script) (config : Config) (list : ProcessList) (p : SeenProcess) (o : Transition) → find (is_live_seen p.pid) list.processes ≡ Some p → is_live_seen p.pid p ≡ true → (chosen : Option Entry) → IfSome chosen (λ e. e.pid ≡ p.pid)
+    → IfSome chosen (λ e. taken_in script config (families list p.pid) p e ≡ Some o) → IfSome chosen (λ e. taken_among script config list e ≡ Some o)
+chosen_takes script config list p o found live None named taken = tt
+chosen_takes script config list p o found live (Some e) named taken =
+    taken_by script config list e p (subst (λ (pid : ℕ). find (is_live_seen pid) list.processes ≡ Some p) (sym named) found) (ap (λ (pid : ℕ). is_live_seen pid p) named ∙ live)
+    ∙ ap (λ (pid : ℕ). taken_in script config (families list pid) p e) named
+    ∙ taken
+
+-- so does an entry that its process takes
+pub taken_of_one : (script : Script) (config : Config) (list : ProcessList) (p : SeenProcess) → find (is_live_seen p.pid) list.processes ≡ Some p → (chosen : Option Entry) → IfSome chosen (λ e. takes_in script config (families list p.pid) e p ≡ true)
+    → IfSome chosen (λ e. is_some (taken_among script config list e) ≡ true)
+taken_of_one script config list p found None takes = tt
+taken_of_one script config list p found (Some e) takes =
+    let parts = and_parts (is_live_seen e.pid p) (is_some (taken_in script config (families list p.pid) p e)) takes in
+    let is : p.pid ≡ e.pid = named e.pid p parts.0 in
+    ap is_some (taken_by script config list e p (subst (λ (pid : ℕ). find (is_live_seen pid) list.processes ≡ Some p) is found) parts.0 ∙ ap (λ (pid : ℕ). taken_in script config (families list pid) p e) (sym is))
+    ∙ parts.1
+
 -- what a legal entry takes, where the run was not stopped
 pub admitted : (script : Script) (config : Config) (v : Seen) (e : Entry) → is_some v.stop ≡ false → e.worker ≤ 16 → legal_transition script config v e ≡ seen_transition script config v e
 admitted script config v e running worker =
     cond-true (is_none v.stop && nat_le e.worker 16) (seen_transition script config v e) None (and_from (is_none v.stop) (nat_le e.worker 16) (ap not running) (le-leb e.worker 16 worker))
-
--- ---- an entry that a process takes
-
--- the first item that passes, of which there is one alone
-taken_first : {A B : Type 0} (live : Bool) (x : A) (f : A → Option B) (any : Bool) (later : Option A) → (live ≡ true → any ≡ false)
-    → (any ≡ true → is_some (option_and_then f later) ≡ true) → (live && is_some (f x) || any) ≡ true → is_some (option_and_then f (cond live (Some x) later)) ≡ true
-taken_first true x f any later alone rest some = sym (or-false (is_some (f x))) ∙ ap (λ b. is_some (f x) || b) (sym (alone refl)) ∙ some
-taken_first false x f any later alone rest some = rest some
-
-module _ (script : Script) (config : Config) (seen_by : ℕ → Family) (e : Entry) where
-  abbrev takes : SeenProcess → Bool
-  takes p = takes_entry script config seen_by e p
-
-  abbrev taken : SeenProcess → Option Transition
-  taken p = taken_in script config (seen_by p.pid) p e
-
-  none_later : (low high : ℕ) (ps : List SeenProcess) → RiseWithin low high ps → e.pid ≤ low → list_any takes ps ≡ false
-  none_later low high [] rise past = refl
-  none_later low high (p ∷ ps) rise past =
-      ap (λ b. b && is_some (taken p) || list_any takes ps) (not_live e.pid p (λ same. omega (arith, rise.0)))
-      ∙ none_later p.pid high ps rise.1 (omega (arith, rise.0))
-
-  -- it is the one that is found by the id
-  found_takes : (low high : ℕ) (ps : List SeenProcess) → RiseWithin low high ps → list_any takes ps ≡ true → is_some (option_and_then taken (find (is_live_seen e.pid) ps)) ≡ true
-  found_takes low high [] rise any = absurd (false≢true any)
-  found_takes low high (p ∷ ps) rise any =
-      taken_first (is_live_seen e.pid p) p taken (list_any takes ps) (find (is_live_seen e.pid) ps)
-      (λ live. none_later p.pid high ps rise.1 (omega (arith, named e.pid p live))) (found_takes p.pid high ps rise.1) any
-
--- it is legal
-pub taken_is_legal : (script : Script) (config : Config) (e : Entry) (v : Seen) (high : ℕ) → RiseWithin 0 high v.processes → is_some v.stop ≡ false → e.worker ≤ 16 → list_any (takes_entry script config (family_in v) e) v.processes ≡ true
-    → is_some (legal_transition script config v e) ≡ true
-taken_is_legal script config e v high rise running worker any = ap is_some (admitted script config v e running worker) ∙ found_takes script config (family_in v) e 0 high v.processes rise any

@@ -1,11 +1,15 @@
 -- The places of the processes after a step of a thread.
 use Rattle.pct_names.proofs.Names.{◌<◌, [], ap, arith, Bool, cond, false, List, map, none-some, refl, Relative, same_Some, set-get_or}
 use Rattle.pct_names.proofs.Names.{slice_get, slice_set, Some, subst, suc, sym, take, take-set-lt, Transition, true, zero, ℕ, ◌∙◌, ◌∷◌, ◌≡◌}
-use Rattle.pct_names.proofs.Names.{◌≤◌}
+use Rattle.pct_names.proofs.Names.{◌≤◌, and_from, Entry, find, get_or, get_or-take, get_or_from_slice_get, IfSome, is_some, length-take, nat_eq}
+use Rattle.pct_names.proofs.Names.{None, not, Option, slice_get_within}
+use Rattle.std.proofs.lemmas.Bool.{eq-eqb}
 use Rattle.std.proofs.lemmas.List.{length-set}
 use Rattle.pct_engine_laws.specs.Seen.{SeenProcess, process_seen, is_live_seen, relative_in}
+use Rattle.pct_machine.specs.declared.scheduler.Seat.{Seat}
+use Rattle.pct_machine.specs.Candidates.{IsSeat}
 use Rattle.pct_machine.specs.Places.{ProcessList, RiseWithin, AreSound}
-use Rattle.pct_machine.specs.ListChanges.{process_moved, list_moved}
+use Rattle.pct_machine.specs.ListChanges.{process_moved, list_moved, process_after_entry, list_after_entry}
 use Rattle.pct_machine.proofs.LegalEntries.{not_live, named, IsFound}
 
 -- ---- ids that rise
@@ -107,3 +111,48 @@ module _ (slots pid tid : ℕ) (o : Transition) where
       -- and the processes on them
       pub list_after_step : record { processes = take live (slice_set places i q); made = made } ≡ cond moves (list_moved slots pid tid o before) before
       list_after_step = λ j. record { processes = (ap (λ (x : SeenProcess). take live (slice_set places i x)) after ∙ list_if moves) j; made = made_if moves j }
+
+-- ---- the step of the entry that was chosen
+
+-- the process at an index is the first one that is found by its id
+first_at : (pid low high i : ℕ) (ps : List SeenProcess) (p : SeenProcess) → RiseWithin low high ps → slice_get ps i ≡ Some p → is_live_seen pid p ≡ true → find (is_live_seen pid) ps ≡ Some p
+first_at pid low high zero (q ∷ ps) p rise at live = ap (λ (b : Bool). cond b (Some q) (find (is_live_seen pid) ps)) (ap (is_live_seen pid) (same_Some q p at) ∙ live) ∙ at
+first_at pid low high (suc i) (q ∷ ps) p rise at live =
+    ap (λ (b : Bool). cond b (Some q) (find (is_live_seen pid) ps)) (not_first pid high q ps rise.1 i p at live) ∙ first_at pid q.pid high i ps p rise.1 at live
+first_at pid low high i [] p rise at live = absurd (none-some p at)
+
+module _ (live made : ℕ) (relatives : List Relative) (places : List SeenProcess) (sound : AreSound live made relatives places) (seat : Seat) (is : IsSeat (take live places) seat) where
+  -- its place is one of those of the processes
+  pub seat_within : seat.place < live
+  seat_within = omega (arith, slice_get_within (take live places) seat.place is.process is.here, length-take live places)
+
+  -- the process on it is found there
+  pub on_seat : (p : SeenProcess) → p ≡ get_or places seat.place p → is.process ≡ p
+  on_seat p here = sym (get_or_from_slice_get (take live places) seat.place is.process p is.here) ∙ get_or-take live places seat.place p seat_within ∙ sym here
+
+  pub seat_found : (p : SeenProcess) → p ≡ get_or places seat.place p → IsFound p.pid seat.place live places p
+  seat_found p here =
+      let same : is.process ≡ p = on_seat p here in
+      let at : slice_get (take live places) seat.place ≡ Some p = is.here ∙ ap (λ (q : SeenProcess). Some q) same in
+      let has_id : is_live_seen p.pid p ≡ true = and_from (nat_eq p.pid p.pid) (not (is_some p.ended)) (eq-eqb p.pid p.pid refl) (ap (λ (q : SeenProcess). not (is_some q.ended)) (sym same) ∙ ap not is.live) in
+      record {
+        within = seat_within;
+        here = here;
+        at = at;
+        has_id = has_id;
+        first = first_at p.pid 0 made seat.place (take live places) p sound.rising at has_id;
+      }
+
+module _ (slots : ℕ) (o : Transition) (i live made : ℕ) (relatives : List Relative) (places : List SeenProcess) (p : SeenProcess) (found : IsFound p.pid i live places p) (sound : AreSound live made relatives places) where
+  -- the places after it
+  pub sound_after_entry : (chosen : Option Entry) (q : SeenProcess) → q ≡ process_after_entry slots o chosen p → AreSound live made relatives (slice_set places i q)
+  sound_after_entry None q after = sound_after_step slots p.pid 0 o i live made relatives places p found sound false q after
+  sound_after_entry (Some e) q after = sound_after_step slots p.pid e.tid o i live made relatives places p found sound true q after
+
+  -- and the processes on them
+  pub places_after_entry : (chosen : Option Entry) (q : SeenProcess) → IfSome chosen (λ e. e.pid ≡ p.pid) → q ≡ process_after_entry slots o chosen p
+      → record { processes = take live (slice_set places i q); made = made } ≡ list_after_entry slots o chosen (record { processes = take live places; made = made })
+  places_after_entry None q named after = list_after_step slots p.pid 0 o i live made relatives places p found sound false q after
+  places_after_entry (Some e) q named after =
+      list_after_step slots p.pid e.tid o i live made relatives places p found sound true q after
+      ∙ ap (λ (pid : ℕ). list_moved slots pid e.tid o (record { processes = take live places; made = made })) (sym named)

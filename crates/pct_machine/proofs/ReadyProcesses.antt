@@ -1,22 +1,19 @@
 -- The threads of several processes that are ready: the verdict, and the choice of the scheduler.
+use Rattle.pct_names.proofs.Names.{add-one, filter, slice_get_past, Thread}
 use Rattle.pct_names.proofs.Names.{◌%◌, ◌+◌, ◌++◌, ◌-◌, [], Alt, ap, arith, Bool, Candidate, cond, Config, Entry, entry_for, false, Family}
 use Rattle.pct_names.proofs.Names.{flat_map, has_timeouts, IfSome, is_some, item_at, length, length-map, List, list_all, list_any, map}
 use Rattle.pct_names.proofs.Names.{nat_eq, None, none-some, not, Option, option_and_then, option_map, refl, same_Some, Script, slice_get}
 use Rattle.pct_names.proofs.Names.{slice_get-map, Some, suc, sym, true, Verdict, Why, ◌||◌, ℕ, ◌∙◌, ◌∷◌, ◌≡◌, ◌≤◌}
 use Rattle.std.proofs.Math.Nat.{zero-add}
 use Rattle.pct_model.specs.declared.stop.Verdict.TheVariants as verdict
-use Rattle.pct_engine_laws.specs.Seen.{SeenProcess, Seen, family_in}
-use Rattle.pct_engine_laws.specs.SeenSteps.{ready_in, candidate_in, has_ready_in, seen_candidates, seen_chosen, seen_verdict, seen_verdict_by}
-use Rattle.pct_engine_laws.proofs.ListFacts.{then-map}
+use Rattle.pct_engine_laws.specs.Seen.{SeenProcess, Seen, threads_on, family_in}
+use Rattle.pct_engine_laws.specs.SeenSteps.{is_ready_in, ready_in, candidate_in, has_ready_in, seen_candidates, seen_chosen, seen_transition, seen_verdict, seen_verdict_by}
 use Rattle.pct_process.specs.ProcessViews.{thread_on_slot}
-use Rattle.pct_machine.specs.declared.scheduler.Draw.{Draw}
-use Rattle.pct_machine.specs.declared.scheduler.Pick.{Pick}
-use Rattle.pct_machine.specs.declared.scheduler.Pick.TheVariants.{Here, Before}
-use Rattle.pct_machine.specs.Places.{RiseWithin}
+use Rattle.pct_machine.specs.declared.scheduler.Seat.{Seat}
 use Rattle.pct_machine.specs.ProcessSteps.{AllCanStep}
 use Rattle.pct_machine.specs.MachineSteps.{legal_transition}
-use Rattle.pct_machine.specs.Candidates.{candidates_of, candidates_among, pick_after, takes_entry}
-use Rattle.pct_machine.proofs.LegalEntries.{taken_is_legal}
+use Rattle.pct_machine.specs.Candidates.{Picked, Here, Before, candidates_of, candidates_among, candidate_on, pick_after, IsSeat}
+use Rattle.pct_machine.proofs.LegalEntries.{admitted}
 use Rattle.pct_machine.proofs.Picks.{among}
 use Rattle.pct_machine.proofs.ReadySlots.{as_many, ready_at}
 
@@ -28,15 +25,41 @@ module _ (script : Script) (timeouts : Bool) (family : Family) (p : SeenProcess)
   count_is = as_many p.slots set (ready_in script timeouts (length p.slots) family p) are ∙ sym (length-map (ready_in script timeouts (length p.slots) family p) (candidate_in script timeouts (length p.slots) family p))
 
   -- the candidate at an index
-  pub candidate_at : {T : Type 0} (g : Candidate → Option T) (j : ℕ) (slot : Option ℕ) → slot ≡ slice_get set j → option_and_then g (slice_get (candidates_of script timeouts family p) j) ≡ option_and_then (λ t. g (candidate_in script timeouts (length p.slots) family p t)) (option_and_then (thread_on_slot p.slots) slot)
-  candidate_at g j slot at =
-      ap (option_and_then g) (slice_get-map (candidate_in script timeouts (length p.slots) family p) (ready_in script timeouts (length p.slots) family p) j)
-      ∙ then-map g (candidate_in script timeouts (length p.slots) family p) (slice_get (ready_in script timeouts (length p.slots) family p) j)
-      ∙ ap (option_and_then (λ t. g (candidate_in script timeouts (length p.slots) family p t))) (sym (ready_at p.slots set (ready_in script timeouts (length p.slots) family p) are j slot at).0)
+  pub candidate_at : (j : ℕ) (slot : Option ℕ) → slot ≡ slice_get set j → slice_get (candidates_of script timeouts family p) j ≡ option_map (candidate_in script timeouts (length p.slots) family p) (option_and_then (thread_on_slot p.slots) slot)
+  candidate_at j slot at =
+      slice_get-map (candidate_in script timeouts (length p.slots) family p) (ready_in script timeouts (length p.slots) family p) j
+      ∙ ap (option_map (candidate_in script timeouts (length p.slots) family p)) (sym (ready_at p.slots set (ready_in script timeouts (length p.slots) family p) are j slot at).0)
 
   -- a thread holds its slot
-  pub slot_held : (j : ℕ) (slot : Option ℕ) → slot ≡ slice_get set j → IfSome slot (λ s. is_some (thread_on_slot p.slots s) ≡ true)
-  slot_held j slot at = (ready_at p.slots set (ready_in script timeouts (length p.slots) family p) are j slot at).1
+  pub slot_held : (j slot : ℕ) → Some slot ≡ slice_get set j → is_some (thread_on_slot p.slots slot) ≡ true
+  slot_held j slot at = (ready_at p.slots set (ready_in script timeouts (length p.slots) family p) are j (Some slot) at).1
+
+  -- and the process has not ended
+  pub has_not_ended : (j slot : ℕ) → Some slot ≡ slice_get set j → is_some p.ended ≡ false
+  has_not_ended j slot at = by (is_some p.ended) refl where
+    by : (b : Bool) → is_some p.ended ≡ b → b ≡ false
+    by false is = refl
+    by true is =
+        let none : length set ≡ 0 = as_many p.slots set (ready_in script timeouts (length p.slots) family p) are ∙ ap (λ (b : Bool). length (cond b [] (filter (is_ready_in script timeouts (length p.slots) family p) (threads_on p.slots)))) is in
+        absurd (none-some slot (sym (slice_get_past set j (omega (arith, none))) ∙ sym at))
+
+-- ---- seats
+
+-- the thread on a seat, as a candidate
+pub candidate_is : (script : Script) (timeouts : Bool) (seen_by : ℕ → Family) (ps : List SeenProcess) (seat : Seat) (p : SeenProcess) (t : Thread) → slice_get ps seat.place ≡ Some p → thread_on_slot p.slots seat.slot ≡ Some t
+    → candidate_on script timeouts seen_by ps seat ≡ Some (candidate_in script timeouts (length p.slots) (seen_by p.pid) p t)
+candidate_is script timeouts seen_by ps seat p t here on =
+    ap (option_and_then (λ q. option_map (candidate_in script timeouts (length q.slots) (seen_by q.pid) q) (thread_on_slot q.slots seat.slot))) here
+    ∙ ap (option_map (candidate_in script timeouts (length p.slots) (seen_by p.pid) p)) on
+
+-- the same of the processes after the first one
+pub later_seat : (script : Script) (timeouts : Bool) (seen_by : ℕ → Family) (p : SeenProcess) (ps : List SeenProcess) (place slot : ℕ)
+    → candidate_on script timeouts seen_by ps (record { place = place; slot = slot }) ≡ candidate_on script timeouts seen_by (p ∷ ps) (record { place = place + 1; slot = slot })
+later_seat script timeouts seen_by p ps place slot = ap (λ (n : ℕ). candidate_on script timeouts seen_by (p ∷ ps) (record { place = n; slot = slot })) (sym (add-one place))
+
+-- a seat among them
+pub is_later_seat : (p : SeenProcess) (ps : List SeenProcess) (place slot : ℕ) → IsSeat ps (record { place = place; slot = slot }) → IsSeat (p ∷ ps) (record { place = place + 1; slot = slot })
+is_later_seat p ps place slot seat = record { process = seat.process; here = ap (slice_get (p ∷ ps)) (add-one place) ∙ seat.here; live = seat.live; held = seat.held }
 
 -- ---- their slots
 
@@ -87,39 +110,35 @@ entry_worker worker b (Some c) e is = by_choice (item_at c.choices b) is where
   by_choice None is = absurd (none-some e is)
   by_choice (Some choice) is = sym (ap (λ (x : Entry). x.worker) (same_Some (record { worker = worker; pid = c.pid; tid = c.tid; alt = choice }) e is))
 
-legal_if : (script : Script) (config : Config) (v : Seen) (high : ℕ) → RiseWithin 0 high v.processes → is_some v.stop ≡ false → (o : Option Entry) → IfSome o (λ e. list_any (takes_entry script config (family_in v) e) v.processes ≡ true) → ((e : Entry) → o ≡ Some e → e.worker ≤ 16)
-    → IfSome o (λ e. is_some (legal_transition script config v e) ≡ true)
-legal_if script config v high rise running None taken small = tt
-legal_if script config v high rise running (Some e) taken small = taken_is_legal script config e v high rise running (small e refl) taken
-
-module _ (script : Script) (config : Config) (v : Seen) (draw : Draw) (can : AllCanStep config.slots v.processes v.made) (running : is_some v.stop ≡ false) where
+module _ (script : Script) (config : Config) (v : Seen) (number : ℕ) (can : AllCanStep config.slots v.processes v.made) (running : is_some v.stop ≡ false) where
   abbrev all : List Candidate
   all = candidates_among script (has_timeouts config.format) (family_in v) v.processes
 
-  whole : (answer : Pick) → answer ≡ pick_after 0 draw all → answer ≡ Here (option_and_then (entry_for draw.worker draw.choice) (item_at all draw.thread))
+  whole : (answer : Picked) → answer ≡ pick_after 0 number all → answer ≡ Here (item_at all number)
   unfolding pick_after
   whole answer is =
       is
-      ∙ among 0 draw (draw.thread % (0 + length all)) all (omega (arith))
-      ∙ ap (λ (k : ℕ). Here (option_and_then (entry_for draw.worker draw.choice) (slice_get all k))) (sub_zero (draw.thread % (0 + length all)))
-      ∙ ap (λ (n : ℕ). Here (option_and_then (entry_for draw.worker draw.choice) (slice_get all (draw.thread % n)))) (zero-add (length all))
+      ∙ among 0 (number % (0 + length all)) all (omega (arith))
+      ∙ ap (λ (k : ℕ). Here (slice_get all k)) (sub_zero (number % (0 + length all)))
+      ∙ ap (λ (n : ℕ). Here (slice_get all (number % n))) (zero-add (length all))
 
   -- the entry that is chosen
-  pub chosen_is : (entry : Option Entry) → Here entry ≡ pick_after 0 draw all → entry ≡ seen_chosen script config v draw.worker draw.thread draw.choice
+  pub chosen_is : (c : Option Candidate) (worker choice : ℕ) → Here c ≡ pick_after 0 number all → option_and_then (entry_for worker choice) c ≡ seen_chosen script config v worker number choice
   unfolding seen_candidates
-  chosen_is entry is =
-      cc (whole (Here entry) is)
-      ∙ ap (λ (cs : List Candidate). option_and_then (entry_for draw.worker draw.choice) (item_at cs draw.thread)) (among_sized script (has_timeouts config.format) config.slots (family_in v) v.processes (λ i p at. (can.each i p at).all))
-      ∙ sym (ap (λ b. cond (not b) (option_and_then (entry_for draw.worker draw.choice) (item_at (seen_candidates script config v) draw.thread)) None) running)
+  chosen_is c worker choice is =
+      let same : c ≡ item_at all number = cc (whole (Here c) is) in
+      ap (option_and_then (entry_for worker choice)) same
+      ∙ ap (λ (cs : List Candidate). option_and_then (entry_for worker choice) (item_at cs number)) (among_sized script (has_timeouts config.format) config.slots (family_in v) v.processes (λ i p at. (can.each i p at).all))
+      ∙ sym (ap (λ b. cond (not b) (option_and_then (entry_for worker choice) (item_at (seen_candidates script config v) number)) None) running)
 
   -- it is one of the candidates
-  pub never_before : (i : ℕ) → Before i ≡ pick_after 0 draw all → ⊥
+  pub never_before : (i : ℕ) → Before i ≡ pick_after 0 number all → ⊥
   never_before i is = cc (whole (Before i) is)
 
-  -- it is legal for a worker within the limit
-  pub chosen_is_legal : (high : ℕ) → RiseWithin 0 high v.processes → (entry : Option Entry) → Here entry ≡ pick_after 0 draw all → IfSome entry (λ e. list_any (takes_entry script config (family_in v) e) v.processes ≡ true) → draw.worker ≤ 16 → IfSome entry (λ e. is_some (legal_transition script config v e) ≡ true)
-  chosen_is_legal high rise entry is taken small =
-      legal_if script config v high rise running entry taken (λ e some.
-      let same : entry ≡ option_and_then (entry_for draw.worker draw.choice) (item_at all draw.thread) = cc (whole (Here entry) is) in
-      let by : e.worker ≡ draw.worker = entry_worker draw.worker draw.choice (item_at all draw.thread) e (sym same ∙ some) in
-      omega (arith, by, small))
+-- the entry of a candidate is legal for a worker within the limit, if its process takes it
+pub chosen_is_legal : (script : Script) (config : Config) (v : Seen) (worker choice : ℕ) → is_some v.stop ≡ false → worker ≤ 16 → (c : Option Candidate) (entry : Option Entry) → entry ≡ option_and_then (entry_for worker choice) c
+    → IfSome entry (λ e. is_some (seen_transition script config v e) ≡ true) → IfSome entry (λ e. is_some (legal_transition script config v e) ≡ true)
+chosen_is_legal script config v worker choice running small c None is taken = tt
+chosen_is_legal script config v worker choice running small c (Some e) is taken =
+    let by : e.worker ≡ worker = entry_worker worker choice c e (sym is) in
+    ap is_some (admitted script config v e running (omega (arith, by, small))) ∙ taken

@@ -8,7 +8,7 @@ use Rattle.pct_model.specs.declared.script.Script.{Script}
 use Rattle.pct_model.specs.declared.transition.ProcessAction.{ProcessAction}
 use Rattle.pct_model.specs.declared.transition.ProcessAction.TheVariants as process_action
 use Rattle.pct_model.specs.declared.transition.Transition.{Transition}
-use Rattle.pct_engine_laws.specs.Seen.{SeenProcess, own_kept, other_kept, process_seen, is_live_seen, child_seen}
+use Rattle.pct_engine_laws.specs.Seen.{Seen, SeenProcess, own_kept, other_kept, process_seen, is_live_seen, child_seen}
 use Rattle.pct_machine.specs.Places.{ProcessList, families}
 use Rattle.pct_machine.specs.ProcessSteps.{HasThread, taken_in}
 
@@ -25,6 +25,16 @@ process_moved slots pid tid o p = if is_live_seen pid p then process_seen slots 
 -- all processes
 abbrev pub list_moved : (slots pid tid : ℕ) → Transition → ProcessList → ProcessList
 list_moved slots pid tid o list = record list { processes = map (process_moved slots pid tid o) list.processes }
+
+-- a process after the step of the entry that was chosen for a thread of it, if one was
+abbrev pub process_after_entry : ℕ → Transition → Option Entry → SeenProcess → SeenProcess
+process_after_entry slots o None p = p
+process_after_entry slots o (Some e) p = process_seen slots e.tid o p
+
+-- all processes after the step of the entry that was chosen, if one was
+abbrev pub list_after_entry : ℕ → Transition → Option Entry → ProcessList → ProcessList
+list_after_entry slots o None list = list
+list_after_entry slots o (Some e) list = list_moved slots e.pid e.tid o list
 
 -- ---- the changes of the list
 
@@ -47,6 +57,16 @@ abbrev pub list_changed : ℕ → ℕ → Option ProcessAction → ProcessList �
 list_changed pid tid None list = list
 list_changed pid tid (Some (process_action.Make child)) list = list_with_child pid tid child list
 list_changed pid tid (Some c) list = record list { processes = flat_map (process_changed pid c) list.processes }
+
+-- the processes of a run
+abbrev pub list_in : Seen → ProcessList
+list_in v = record { processes = v.processes; made = v.made }
+
+-- a run after what a transition of the thread with an id of process pid changes beside the data of its process
+abbrev pub seen_finished : (pid tid : ℕ) → Transition → Seen → Seen
+seen_finished pid tid o v =
+    let list : ProcessList = list_changed pid tid o.process (list_in v) in
+    record { processes = list.processes; made = list.made; stop = o.stop }
 
 -- ---- what they need
 

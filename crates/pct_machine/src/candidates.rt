@@ -1,21 +1,17 @@
 //! The candidates of the scheduler: the threads that are ready, of one process after the other.
 
-ghost use Rattle.std.specs.Prelude.{◌≡◌, ◌+◌, ◌*◌, ◌<◌, ◌^◌, ℕ, suc, true, false, length, map, Some, is_some, slice_get, IfSome};
+ghost use Rattle.std.specs.Prelude.{◌≡◌, ◌+◌, ◌*◌, ◌<◌, ◌^◌, ℕ, suc, length, map, Some, is_some, slice_get};
 ghost use Rattle.std.specs.List.{list_all, list_any};
-ghost use Rattle.pct_model.specs.Chosen.{entry_for};
 ghost use Rattle.pct_model.specs.Formats.{has_timeouts};
-ghost use Rattle.pct_model.specs.World.{Thread};
-ghost use Rattle.pct_engine_laws.specs.SeenSteps.{has_ready_in, ready_in, candidate_in};
+ghost use Rattle.pct_engine_laws.specs.SeenSteps.{has_ready_in, ready_in};
 ghost use Rattle.pct_process.specs.ProcessViews.{thread_on_slot};
 ghost use Rattle.pct_machine.specs.Places.{families};
-ghost use Rattle.pct_machine.specs.ProcessSteps.{CanStep, EachCanStep};
-ghost use Rattle.pct_machine.specs.Candidates.{candidates_among, pick_after, IfHere, takes_entry};
+ghost use Rattle.pct_machine.specs.Candidates.{candidates_among, pick_after, picked, IfHere, IsSeat};
 ghost use Rattle.pct_ready_sets.specs.ReadyConditions.{FollowsAt, FollowAll};
 
 use crate::place::Place;
 use crate::processes::Processes;
-use crate::scheduler::{Draw, Pick};
-use pct_model::Entry;
+use crate::scheduler::{Pick, Seat};
 use pct_ready_sets::ReadySets;
 use pct_set::SlotSet;
 use pct_transitions::Program;
@@ -35,28 +31,27 @@ pub(crate) fn any_ready(program: &Program, processes: &Processes) -> bool
     processes.as_slice().iter().any(|place| place.has_ready(processes.around(program, place.pid())))
 }
 
-/// What the number of a draw chooses among the threads of these processes that are ready, which follow this many of other processes.
-/// The threads that are ready are looked for once.
+/// What a number chooses among the threads of these processes that are ready, which follow this many of other processes. The threads that
+/// are ready are looked for once.
 pub(crate) fn pick(
     program: &Program,
     processes: &Processes,
     places: &[Place],
     sets: &[ReadySets],
     before: u32,
-    draw: Draw,
+    number: u32,
 ) -> Pick
     requires follow { FollowAll program.now.script (has_timeouts program.now.config.format) places.now sets.now }
-    requires can { EachCanStep program.now.config.slots places.now }
     requires made { processes.now.made + 1 < 2 ^ 32 }
     requires few { before + 64 * length places.now < 2 ^ 32 }
-    ensures value { result ≡ pick_after before draw (candidates_among program.now.script (has_timeouts program.now.config.format) (families processes.now) places.now) }
-    ensures taken { IfHere result (λ e. list_any (takes_entry program.now.script program.now.config (families processes.now) e) places.now ≡ true) }
+    ensures value { picked program.now.script (has_timeouts program.now.config.format) (families processes.now) places.now result ≡ pick_after before number (candidates_among program.now.script (has_timeouts program.now.config.format) (families processes.now) places.now) }
+    ensures seat { IfHere result (IsSeat places.now) }
 {
     let Some((place, rest)) = places.split_first() else {
         if before == 0 {
-            return Pick::Here(None);
+            return Pick::Nobody;
         }
-        return Pick::Before(draw.thread % before);
+        return Pick::Before(number % before);
     };
     let ready = ready(program, processes, place, sets);
     let index = match pick(
@@ -65,17 +60,23 @@ pub(crate) fn pick(
         rest,
         after_first(sets),
         before + ready.len(),
-        draw,
+        number,
     ) {
-        Pick::Here(entry) => return Pick::Here(entry),
+        Pick::Nobody => return Pick::Nobody,
+        Pick::Here(seat) => {
+            return Pick::Here(Seat {
+                place: seat.place + 1,
+                slot: seat.slot,
+            });
+        }
         Pick::Before(index) => index,
     };
     if index < before {
         return Pick::Before(index);
     }
     match ready.nth(index - before) {
-        Some(slot) => Pick::Here(entry_on(program, processes, place, slot, draw)),
-        None => Pick::Here(None),
+        Some(slot) => Pick::Here(Seat { place: 0, slot }),
+        None => Pick::Nobody,
     }
 }
 
@@ -100,22 +101,4 @@ fn after_first(sets: &[ReadySets]) -> &[ReadySets]
         None => sets,
         Some((_, others)) => others,
     }
-}
-
-// The entry that a worker's numbers choose for the thread on a slot of a process, which has not ended.
-fn entry_on(
-    program: &Program,
-    processes: &Processes,
-    place: &Place,
-    slot: u32,
-    draw: Draw,
-) -> Option<Entry>
-    requires can { CanStep program.now.config.slots place.now }
-    requires made { processes.now.made + 1 < 2 ^ 32 }
-    requires held { is_some (thread_on_slot place.now.slots slot) ≡ true }
-    requires live { is_some place.now.ended ≡ false }
-    ensures value { (t : Thread) → thread_on_slot place.now.slots slot ≡ Some t → result ≡ entry_for draw.worker draw.choice (candidate_in program.now.script (has_timeouts program.now.config.format) (length place.now.slots) (families processes.now place.now.pid) place.now t) }
-    ensures taken { IfSome result (λ e. takes_entry program.now.script program.now.config (families processes.now) e place.now ≡ true) }
-{
-    place.entry_on(processes.around(program, place.pid()), slot, draw)
 }

@@ -3,7 +3,7 @@
 use crate::candidates::{all_ended, any_ready, pick};
 use crate::process_view::ProcessView;
 use crate::processes::Processes;
-use crate::scheduler::{Draw, Pick};
+use crate::scheduler::{Draw, Pick, Seat};
 use pct_io::NoMemory;
 use pct_model::{Entry, MAX_WORKER, Script, Transition, Verdict, Why};
 use pct_ready_sets::AllReadySets;
@@ -29,12 +29,16 @@ impl Model for Machine {
 }
 
 impl Machine {
-    ghost use Rattle.std.specs.Prelude.{◌≡◌, ◌≤◌, true, if◌then◌else◌, is_some, length, slice_get, IfOk, IfSome};
+    ghost use Rattle.std.specs.Prelude.{◌≡◌, ◌≤◌, ℕ, true, false, if◌then◌else◌, is_some, length, slice_get, option_and_then, Some, IfOk, IfSome, IfNone};
     ghost use Rattle.pct_model.specs.declared.limits.TheConstants.{MAX_PROCESSES, MAX_SLOTS, MAX_WORKER};
+    ghost use Rattle.pct_model.specs.Chosen.{entry_for};
     ghost use Rattle.pct_model.specs.World.{opening};
-    ghost use Rattle.pct_engine_laws.specs.Seen.{seen, seen_after};
+    ghost use Rattle.pct_engine_laws.specs.Seen.{seen, seen_after, family_in};
     ghost use Rattle.pct_engine_laws.specs.SeenSteps.{seen_chosen, seen_verdict};
-    ghost use Rattle.pct_machine.specs.ProcessSteps.{AllCanStep, some_if};
+    ghost use Rattle.pct_machine.specs.Candidates.{candidate_on, IsSeat};
+    ghost use Rattle.pct_machine.specs.ListChanges.{ChangeFits, list_in, list_moved, seen_finished};
+    ghost use Rattle.pct_machine.specs.Places.{ProcessList};
+    ghost use Rattle.pct_machine.specs.ProcessSteps.{AllCanStep, EachCanStep, some_if};
     ghost use Rattle.pct_machine.specs.MachineSteps.{legal_transition};
     ghost use Rattle.pct_model.specs.Formats.{has_timeouts};
     ghost use Rattle.pct_machine.specs.ShownProcesses.{ShowsIfSome};
@@ -73,11 +77,64 @@ impl Machine {
         if !self.processes.step(program, entry, transition) {
             return false;
         }
-        sets.mark(program.config.slots, entry.tid, transition);
+        self.finish(program, sets, entry, transition);
+        true
+    }
+
+    /// Makes the step of the entry that a worker's numbers choose, and writes the transition that it takes to `transition`: one number
+    /// chooses a thread that is ready, the other one of its choices. The entry is legal. `None` exactly if the run was stopped or no thread
+    /// is ready, and then the machine is as it was. The slots that were stale are looked at again.
+    pub fn advance(
+        &mut self,
+        program: &Program,
+        sets: &mut AllReadySets,
+        draw: Draw,
+        transition: &mut Transition,
+    ) -> Option<Entry>
+        requires can { AllCanStep program.now.config.slots self.old.processes self.old.made }
+        requires follow { FollowAll program.now.script (has_timeouts program.now.config.format) self.old.processes sets.old }
+        requires worker { draw.worker ≤ MAX_WORKER }
+        ensures value { result ≡ seen_chosen program.now.script program.now.config self.old draw.worker draw.thread draw.choice }
+        ensures legal { IfSome result (λ e. legal_transition program.now.script program.now.config self.old e ≡ Some transition.new) }
+        ensures made { IfSome result (λ e. self.new ≡ seen_after program.now.config.slots e.pid e.tid transition.new self.old) }
+        ensures same { IfNone result (self.new ≡ self.old) }
+        ensures follow { FollowAll program.now.script (has_timeouts program.now.config.format) self.new.processes sets.new }
+    {
+        if self.stop.is_some() {
+            return None;
+        }
+        self.refresh(program, sets);
+        let seat = self.seat(program, sets, draw.thread)?;
+        let entry = self.processes.advance(program, seat, draw, transition)?;
+        self.finish(program, sets, &entry, transition);
+        Some(entry)
+    }
+
+    // Makes what a step of the thread of an entry changes beside the data of its process.
+    fn finish(
+        &mut self,
+        program: &Program,
+        sets: &mut AllReadySets,
+        entry: &Entry,
+        transition: &Transition,
+    )
+        requires { IfSome transition.now.process (λ c. ChangeFits entry.now.pid entry.now.tid c (list_in self.old)) }
+        ensures made { self.new ≡ seen_finished entry.now.pid entry.now.tid transition.now self.old }
+        // If this is what is left of a step of these processes, which the sets followed.
+        ensures follow { (before : ProcessList) → EachCanStep program.now.config.slots before.processes → list_in self.old ≡ list_moved program.now.config.slots entry.now.pid entry.now.tid transition.now before → FollowAll program.now.script (has_timeouts program.now.config.format) before.processes sets.old → FollowAll program.now.script (has_timeouts program.now.config.format) self.new.processes sets.new }
+    {
+        match transition.process {
+            None => sets.mark(
+                self.processes.as_slice().len(),
+                program.config.slots,
+                entry.tid,
+                transition,
+            ),
+            Some(_) => sets.mark_all(),
+        }
         self.processes
             .change(entry.pid, entry.tid, transition.process);
         self.stop = transition.stop;
-        true
     }
 
     /// The verdict of a run of this many entries.
@@ -110,9 +167,22 @@ impl Machine {
         if self.stop.is_some() {
             return None;
         }
+        let seat = self.seat(program, sets, draw.thread)?;
+        self.processes.entry_on(program, seat, draw)
+    }
+
+    // The seat of the thread that a number chooses among those that are ready, where the run was not stopped. `None` if no thread is ready.
+    fn seat(&self, program: &Program, sets: &AllReadySets, number: u32) -> Option<Seat>
+        requires can { AllCanStep program.now.config.slots self.now.processes self.now.made }
+        requires follow { FollowAll program.now.script (has_timeouts program.now.config.format) self.now.processes sets.now }
+        requires running { is_some self.now.stop ≡ false }
+        ensures value { (worker choice : ℕ) → option_and_then (entry_for worker choice) (option_and_then (candidate_on program.now.script (has_timeouts program.now.config.format) (family_in self.now) self.now.processes) result) ≡ seen_chosen program.now.script program.now.config self.now worker number choice }
+        ensures seat { IfSome result (IsSeat self.now.processes) }
+    {
         let places = self.processes.as_slice();
-        match pick(program, &self.processes, places, sets.as_slice(), 0, draw) {
-            Pick::Here(entry) => entry,
+        match pick(program, &self.processes, places, sets.as_slice(), 0, number) {
+            Pick::Here(seat) => Some(seat),
+            Pick::Nobody => None,
             Pick::Before(_) => None,
         }
     }

@@ -8,7 +8,9 @@ use pct_model::{Entry, ProcessAction, Relative, Script, Transition};
 use pct_process::ProcessState;
 use pct_ready_sets::{AllReadySets, ReadySets, ready_slots as ready_by_sets};
 use pct_set::SlotSet;
-use pct_transitions::{Program, Surroundings, choice_by, transition_if_offered};
+use pct_transitions::{
+    Program, Surroundings, choice_by, transition_by_number, transition_if_offered,
+};
 use std::alloc::Global;
 use std::marker::Model;
 
@@ -40,7 +42,7 @@ impl Place {
     ghost use Rattle.pct_process.specs.ProcessViews.{thread_on_slot};
     ghost use Rattle.pct_model.specs.declared.transition.ProcessAction.TheVariants as process_action;
     ghost use Rattle.pct_machine.specs.Candidates.{takes_in};
-    ghost use Rattle.pct_machine.specs.ListChanges.{process_changed};
+    ghost use Rattle.pct_machine.specs.ListChanges.{process_changed, process_after_entry};
     ghost use Rattle.pct_machine.specs.ProcessSteps.{CanStep, HasThread, taken_in, some_if};
     ghost use Rattle.pct_machine.specs.ShownProcesses.{ShowsProcess};
     ghost use Rattle.pct_ready_sets.specs.ReadyConditions.{Follows, FollowsAt};
@@ -152,6 +154,36 @@ impl Place {
             worker: draw.worker,
             pid: self.relative.pid,
             tid: self.state.id_on(slot),
+            alt,
+        })
+    }
+
+    /// Makes the step of the entry that a worker's numbers choose for the thread on a slot of the process, and writes the transition that
+    /// it takes to `transition`. `None` if the thread has no choice, and then the process is as it was. What the transition changes beside
+    /// the data of the process is left to the caller.
+    #[inline(always)]
+    pub fn advance(
+        &mut self,
+        around: Surroundings,
+        slot: u32,
+        draw: Draw,
+        transition: &mut Transition,
+    ) -> Option<Entry>
+        requires can { CanStep around.program.now.config.slots self.old }
+        requires held { is_some (thread_on_slot self.old.slots slot) ≡ true }
+        ensures chosen { (t : Thread) → thread_on_slot self.old.slots slot ≡ Some t → result ≡ entry_for draw.worker draw.choice (candidate_in around.entry.program.now.script (has_timeouts around.entry.program.now.config.format) (length self.old.slots) (other_processes around.entry.family) self.old t) }
+        ensures worker { IfSome result (λ e. e.worker ≡ draw.worker) }
+        ensures pid { IfSome result (λ e. e.pid ≡ self.old.pid) }
+        ensures taken { IfSome result (λ e. taken_in around.entry.program.now.script around.entry.program.now.config (other_processes around.entry.family) self.old e ≡ Some transition.new) }
+        ensures made { self.new ≡ process_after_entry around.entry.program.now.config.slots transition.new result self.old }
+    {
+        let alt = transition_by_number(around, &self.state, slot, draw.choice, transition)?;
+        let tid = self.state.id_on(slot);
+        make(&mut self.state, slot, transition);
+        Some(Entry {
+            worker: draw.worker,
+            pid: self.relative.pid,
+            tid,
             alt,
         })
     }

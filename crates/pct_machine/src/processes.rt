@@ -11,6 +11,7 @@ ghost use Rattle.pct_machine.specs.ProcessSteps.{HasThread};
 ghost use Rattle.pct_machine.specs.ListChanges.{process_changed};
 
 use crate::place::Place;
+use crate::scheduler::{Draw, Seat};
 use pct_io::NoMemory;
 use pct_model::{Entry, MAX_PROCESSES, ProcessAction, Relative, Script, Transition};
 use pct_process::{Family, Relatives};
@@ -41,15 +42,18 @@ impl Model for Processes {
 }
 
 impl Processes {
-    ghost use Rattle.std.specs.Prelude.{◌≡◌, ◌+◌, ◌<◌, ◌≤◌, ◌^◌, [], ◌∷◌, length, if◌then◌else◌, IfOk, IfSome, position};
+    ghost use Rattle.std.specs.Prelude.{◌≡◌, ◌+◌, ◌<◌, ◌≤◌, ◌^◌, [], ◌∷◌, length, true, if◌then◌else◌, is_some, option_and_then, Some, IfOk, IfSome, position};
+    ghost use Rattle.pct_model.specs.Chosen.{entry_for};
+    ghost use Rattle.pct_model.specs.Formats.{has_timeouts};
     ghost use Rattle.std.specs.List.{flat_map};
     ghost use Rattle.pct_model.specs.declared.limits.TheConstants.{MAX_SLOTS, MAX_PROCESSES};
     ghost use Rattle.pct_model.specs.World.{first_process};
     ghost use Rattle.pct_engine_laws.specs.Seen.{seen_process, is_live_seen};
     ghost use Rattle.pct_process.specs.FamilyViews.{other_processes};
     ghost use Rattle.pct_machine.specs.Places.{RiseWithin, families};
+    ghost use Rattle.pct_machine.specs.Candidates.{candidate_on, IsSeat};
     ghost use Rattle.pct_machine.specs.ProcessSteps.{AllCanStep, some_if};
-    ghost use Rattle.pct_machine.specs.ListChanges.{taken_among, list_moved, process_changed, list_changed, list_with_child, ChildFits, ChangeFits};
+    ghost use Rattle.pct_machine.specs.ListChanges.{taken_among, list_moved, list_after_entry, process_changed, list_changed, list_with_child, ChildFits, ChangeFits};
 
     /// The processes before the first step, with 1 to 64 thread slots. `NoMemory` is returned if the tables of eight processes do not fit
     /// into memory: no other call takes memory.
@@ -105,6 +109,39 @@ impl Processes {
         };
         let around = surroundings(program, &self.relatives, self.made, entry.pid);
         self.places[index].step(around, entry, transition)
+    }
+
+    /// The entry that a worker's numbers choose for the thread on a seat. `None` if the thread has no choice.
+    pub fn entry_on(&self, program: &Program, seat: Seat, draw: Draw) -> Option<Entry>
+        requires can { AllCanStep program.now.config.slots self.now.processes self.now.made }
+        requires seat { IsSeat self.now.processes seat }
+        ensures value { result ≡ option_and_then (entry_for draw.worker draw.choice) (candidate_on program.now.script (has_timeouts program.now.config.format) (families self.now) self.now.processes seat) }
+        ensures taken { IfSome result (λ e. is_some (taken_among program.now.script program.now.config self.now e) ≡ true) }
+    {
+        let place = &self.places[seat.place];
+        place.entry_on(self.around(program, place.pid()), seat.slot, draw)
+    }
+
+    /// Makes the step of the entry that a worker's numbers choose for the thread on a seat, and writes the transition that it takes to
+    /// `transition`. `None` if the thread has no choice, and then the processes are as they were. The changes of the list of processes are
+    /// left to the caller.
+    pub fn advance(
+        &mut self,
+        program: &Program,
+        seat: Seat,
+        draw: Draw,
+        transition: &mut Transition,
+    ) -> Option<Entry>
+        requires can { AllCanStep program.now.config.slots self.old.processes self.old.made }
+        requires seat { IsSeat self.old.processes seat }
+        ensures chosen { result ≡ option_and_then (entry_for draw.worker draw.choice) (candidate_on program.now.script (has_timeouts program.now.config.format) (families self.old) self.old.processes seat) }
+        ensures worker { IfSome result (λ e. e.worker ≡ draw.worker) }
+        ensures taken { IfSome result (λ e. taken_among program.now.script program.now.config self.old e ≡ Some transition.new) }
+        ensures moved { self.new ≡ list_after_entry program.now.config.slots transition.new result self.old }
+    {
+        let pid = self.places[seat.place].pid();
+        let around = surroundings(program, &self.relatives, self.made, pid);
+        self.places[seat.place].advance(around, seat.slot, draw, transition)
     }
 
     /// Makes a change of the list by the thread with an id of the process with an id, if there is such a change.

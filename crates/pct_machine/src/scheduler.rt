@@ -7,7 +7,6 @@ ghost use Rattle.pct_process.specs.FamilyViews.{other_processes};
 ghost use Rattle.pct_process.specs.ProcessViews.{thread_on_slot};
 ghost use Rattle.pct_transitions.specs.ProcessSteps.{with_data};
 
-use pct_model::Entry;
 use pct_process::ProcessState;
 use pct_set::SlotSet;
 use pct_transitions::{Surroundings, has_choice};
@@ -23,10 +22,22 @@ pub struct Draw {
     pub choice: u32,
 }
 
+/// Where a thread is, among some places of processes.
+#[derive(Clone, Copy)]
+pub(crate) struct Seat {
+    /// The index of the place of its process.
+    pub place: usize,
+    /// The slot that it holds.
+    pub slot: u32,
+}
+
 /// What a number chooses of some candidates and of others before them.
+#[derive(Clone, Copy)]
 pub(crate) enum Pick {
-    /// One of the candidates, by the entry of the worker; none if there are no candidates.
-    Here(Option<Entry>),
+    /// None, since there are no candidates.
+    Nobody,
+    /// One of the candidates.
+    Here(Seat),
     /// One of those before them, by its index among them.
     Before(u32),
 }

@@ -92,3 +92,14 @@ module _ (conditions : List ReadyWhen) (groups : List (List ℕ)) (are : AreGrou
         every = two ∙ one ∙ are.every;
         each = λ j group at. let within : j < length moved = slice_get_within moved j group at in sym (get_or_from_slice_get moved j group [] at) ∙ put_in j (omega (arith, within, two, one, are.every));
       }
+
+  -- the groups stay, where the condition has the group of the one before
+  pub groups_kept : group_of before ≡ group_of c → AreGroups conditions_moved groups
+  groups_kept same = record {
+    all = length-set conditions slot c ∙ are.all;
+    every = are.every;
+    each = λ j group at. are.each j group at ∙ slots_agree _ _ (λ k small. elim (cases_eq k slot) [
+      | inl here_is ↦ ap (was_in j) here_is ∙ ap (is_in_group j) (sym was) ∙ ap (λ (n : ℕ). nat_eq n j) same ∙ sym (ap (is_in j) here_is ∙ here j)
+      | inr apart ↦ sym (elsewhere j k apart)
+    ]);
+  }

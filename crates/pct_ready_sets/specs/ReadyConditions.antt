@@ -1,5 +1,5 @@
 -- The conditions of the slots of a process as its threads are stepped.
-use Rattle.std.specs.Prelude.{◌≡◌, ℕ, ◌<◌, ◌||◌, Bool, true, false, if◌then◌else◌, List, Option, Some, None, is_some, nat_eq, slice_get}
+use Rattle.std.specs.Prelude.{◌≡◌, ℕ, ◌<◌, ◌||◌, Bool, true, false, List, Option, Some, None, nat_eq, slice_get}
 use Rattle.std.specs.Option.{option_map_or}
 use Rattle.pct_model.specs.declared.script.Script.{Script}
 use Rattle.pct_model.specs.declared.transition.NamedAction.{NamedAction}
@@ -7,13 +7,13 @@ use Rattle.pct_model.specs.declared.transition.NamedAction.TheVariants as named
 use Rattle.pct_model.specs.declared.transition.NewThread.{NewThread}
 use Rattle.pct_model.specs.declared.transition.Transition.{Transition}
 use Rattle.pct_model.specs.ThreadSlots.{slot_of}
-use Rattle.pct_set.specs.Slots.{slots_where, has_slot}
+use Rattle.pct_set.specs.Slots.{has_slot}
 use Rattle.pct_engine_laws.specs.Seen.{SeenProcess}
 use Rattle.pct_process.specs.ProcessViews.{thread_on_slot}
 use Rattle.pct_transitions.specs.declared.readiness.ReadyWhen.{ReadyWhen}
 use Rattle.pct_transitions.specs.declared.readiness.ReadyWhen.TheVariants as ready
 use Rattle.pct_transitions.specs.Readiness.{ready_when}
-use Rattle.pct_ready_sets.specs.ReadyGroups.{ReadyValue, condition_on, with_stale, all_stale}
+use Rattle.pct_ready_sets.specs.ReadyGroups.{ReadyValue, condition_on}
 
 -- the condition under which the thread on slot k of a process has a choice; without a thread none ever has
 abbrev pub condition_of_slot : Script → Bool → SeenProcess → ℕ → ReadyWhen
@@ -51,7 +51,3 @@ creates_on slots k (Some new) = nat_eq (slot_of slots new.id) k
 -- the condition of slot k can be another one after a transition of the thread with an id
 abbrev pub touches : ℕ → ℕ → Transition → ℕ → Bool
 touches slots tid o k = nat_eq (slot_of slots tid) k || (creates_on slots k o.created || names_slot slots k o.named)
-
--- what is known after a transition of the thread with an id: nothing, if it changes the list of processes
-abbrev pub marked : ℕ → ℕ → Transition → ReadyValue → ReadyValue
-marked slots tid o v = if is_some o.process then all_stale v else with_stale (slots_where (touches slots tid o)) v

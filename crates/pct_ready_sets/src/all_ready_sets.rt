@@ -28,12 +28,13 @@ impl Model for AllReadySets {
 }
 
 impl AllReadySets {
-    ghost use Rattle.std.specs.Prelude.{◌≡◌, ◌≢◌, ◌≤◌, ℕ, map, replicate, slice_get, IfOk};
+    ghost use Rattle.std.specs.Prelude.{◌≡◌, ◌≢◌, ◌<◌, ◌≤◌, ℕ, map, option_map, replicate, slice_get, IfOk};
     ghost use Rattle.pct_model.specs.Formats.{has_timeouts};
     ghost use Rattle.pct_model.specs.declared.limits.TheConstants.{MAX_PROCESSES, MAX_SLOTS};
+    ghost use Rattle.pct_set.specs.Slots.{slots_where};
     ghost use Rattle.pct_transitions.specs.ProcessSteps.{with_data};
-    ghost use Rattle.pct_ready_sets.specs.ReadyConditions.{marked, FollowsAt};
-    ghost use Rattle.pct_ready_sets.specs.ReadyGroups.{unknown};
+    ghost use Rattle.pct_ready_sets.specs.ReadyConditions.{touches, FollowsAt};
+    ghost use Rattle.pct_ready_sets.specs.ReadyGroups.{unknown, with_stale, all_stale};
 
     /// The sets of eight processes, of which nothing is known. `NoMemory` is returned if they do not fit into memory.
     pub fn new(alloc: Global) -> Result<AllReadySets, NoMemory>
@@ -64,22 +65,27 @@ impl AllReadySets {
         }
     }
 
-    /// The slots become stale that a transition of the thread with an id touches, in processes with 1 to 64 slots; each slot does, if the
-    /// transition changes the list of processes.
-    pub fn mark(&mut self, slots: u32, tid: u32, transition: &Transition)
+    /// The slots become stale that a transition of the thread with an id touches, in processes with 1 to 64 slots on the first `live`
+    /// places.
+    pub fn mark(&mut self, live: usize, slots: u32, tid: u32, transition: &Transition)
         requires some { 1 ≤ slots }
         requires few { slots ≤ MAX_SLOTS }
-        ensures { self.new ≡ map (marked slots tid transition.now) self.old }
+        ensures { (i : ℕ) → i < live → slice_get self.new i ≡ option_map (with_stale (slots_where (touches slots tid transition.now))) (slice_get self.old i) }
     {
-        if transition.process.is_some() {
-            for sets in self.sets.iter_mut() {
-                sets.mark_all();
+        let touched = touched_slots(slots, tid, transition);
+        for place in 0..live {
+            if place < self.sets.len() {
+                self.sets[place].mark(&touched);
             }
-        } else {
-            let touched = touched_slots(slots, tid, transition);
-            for sets in self.sets.iter_mut() {
-                sets.mark(&touched);
-            }
+        }
+    }
+
+    /// Each slot becomes stale: the processes move to other places.
+    pub fn mark_all(&mut self)
+        ensures { self.new ≡ map all_stale self.old }
+    {
+        for sets in self.sets.iter_mut() {
+            sets.mark_all();
         }
     }
 }

@@ -100,9 +100,12 @@ impl ReadySets {
         requires { slot < 64 }
         ensures { self.new ≡ record { conditions = slice_set self.old.conditions slot condition; stale = without_slot slot self.old.stale } }
     {
-        let before = self.condition(slot);
-        take_out(&mut self.groups, group_of(before), slot);
-        put_in(&mut self.groups, group_of(condition), slot);
+        let (from, to) = (group_of(self.condition(slot)), group_of(condition));
+        // Most often a thread has a choice now, and had one.
+        if from != to {
+            take_out(&mut self.groups, from, slot);
+            put_in(&mut self.groups, to, slot);
+        }
         self.conditions[slot as usize] = condition;
         self.stale.remove(slot);
     }

@@ -10,3 +10,4 @@ pub mod WaitersRead
 pub mod ProcessReads
 mod OfferedLists
 pub mod ReadyThreads
+pub mod NumberedChoices

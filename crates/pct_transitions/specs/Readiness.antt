@@ -1,6 +1,6 @@
 -- When a thread has a choice: a condition on the other threads, on what the threads share and on the other processes. The condition is a
 -- function of the thread itself, of its next statement, of whether its process is restricted, and of whether the time of a wait may expire.
-use Rattle.std.specs.Prelude.{ℕ, Bool, true, false, not, ◌&&◌, ◌||◌, nat_lt, slice_index}
+use Rattle.std.specs.Prelude.{Bool, true, false, not, ◌&&◌, ◌||◌, nat_lt, slice_index}
 use Rattle.pct_model.specs.declared.frame.Frame.{Frame}
 use Rattle.pct_model.specs.declared.script.Script.{Script}
 use Rattle.pct_model.specs.declared.statement.Stmt.{Stmt}

@@ -32,7 +32,9 @@ pub use cancel_calls::may_pass_point;
 pub use context::Surroundings;
 pub use current::At;
 pub use process_reads::{count_in, has_ended, is_unowned, next_on, once_in, record_of};
-pub use process_steps::{choice_at, choice_by, choice_count, has_choice, transition_if_offered};
+pub use process_steps::{
+    choice_at, choice_by, choice_count, has_choice, transition_by_number, transition_if_offered,
+};
 pub use program::Program;
 pub use readiness::{ReadyWhen, is_met, ready_when};
 pub use transitions::no_change;

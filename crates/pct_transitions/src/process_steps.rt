@@ -1,13 +1,18 @@
 //! The steps of the threads of a process.
 
-ghost use Rattle.std.specs.Prelude.{◌≡◌, Some, is_some, length, slice_get, true};
+ghost use Rattle.std.specs.Prelude.{◌≡◌, IfSome, Some, is_some, length, slice_get, true};
 ghost use Rattle.pct_model.specs.Formats.{has_timeouts};
-ghost use Rattle.pct_model.specs.World.{Thread};
+ghost use Rattle.pct_model.specs.World.{Thread, SharedState};
+ghost use Rattle.pct_model.specs.Environment.{Environment};
+ghost use Rattle.pct_model.specs.NextStatement.{next_of, body_at};
+ghost use Rattle.pct_model.specs.ChoiceTable.{choices_at};
 ghost use Rattle.pct_model.specs.Chosen.{item_at};
 ghost use Rattle.pct_engine_laws.specs.Fitting.{Fits};
 ghost use Rattle.pct_engine_laws.specs.SeenSteps.{choices_in, is_ready_in};
 ghost use Rattle.pct_process.specs.FamilyViews.{other_processes};
 ghost use Rattle.pct_process.specs.ProcessViews.{thread_on_slot};
+ghost use Rattle.pct_transitions.specs.Contexts.{IsContext, IsWhole};
+ghost use Rattle.pct_transitions.specs.Numbers.{NumbersFit};
 ghost use Rattle.pct_transitions.specs.ProcessSteps.{with_data, NewNumbersFit, ForksHaveRoom, Takes};
 
 use crate::choice_table::choices_at;
@@ -38,17 +43,28 @@ pub fn choice_by(
     requires numbers { NewNumbersFit process.now }
     ensures { (t : Thread) → thread_on_slot process.now.slots slot ≡ Some t → result ≡ item_at (choices_in around.entry.program.now.script (has_timeouts around.entry.program.now.config.format) (length process.now.slots) (other_processes around.entry.family) (with_data process.now) t) number }
 {
+    numbered(&Context::new(around, process, slot), number)
+}
+
+/// The same, and writes what the thread does by the choice to `transition`.
+pub fn transition_by_number(
+    around: Surroundings,
+    process: &ProcessState,
+    slot: u32,
+    number: u32,
+    transition: &mut Transition,
+) -> Option<Alt>
+    requires held { is_some (thread_on_slot process.now.slots slot) ≡ true }
+    requires numbers { NewNumbersFit process.now }
+    requires room { ForksHaveRoom process.now.slots }
+    ensures chosen { (t : Thread) → thread_on_slot process.now.slots slot ≡ Some t → result ≡ item_at (choices_in around.entry.program.now.script (has_timeouts around.entry.program.now.config.format) (length process.now.slots) (other_processes around.entry.family) (with_data process.now) t) number }
+    ensures taken { (t : Thread) → thread_on_slot process.now.slots slot ≡ Some t → IfSome result (λ choice. Takes around.entry.program.now.script around.entry.program.now.config (other_processes around.entry.family) process.now t choice true transition.new) }
+    ensures fits { (t : Thread) → thread_on_slot process.now.slots slot ≡ Some t → IfSome result (λ choice. Fits (length t.frames) (length t.handlers) t.pass transition.new.own) }
+{
     let context = Context::new(around, process, slot);
-    let choices = choices_at(&context);
-    let count = choices.count(context.position.keys);
-    if count == 0 {
-        return None;
-    }
-    choices.nth(
-        context.threads,
-        context.position.keys,
-        number as usize % count,
-    )
+    let choice = numbered(&context, number)?;
+    transition_by(&context, choice, transition);
+    Some(choice)
 }
 
 /// The number of the choices of the thread on a slot.
@@ -98,4 +114,25 @@ pub fn transition_if_offered(
     }
     transition_by(&context, choice, transition);
     true
+}
+
+// The choice that a number chooses, modulo the number of choices, of a thread with this context.
+#[inline(always)]
+fn numbered(context: &Context, number: u32) -> Option<Alt>
+    requires whole { IsWhole context.now }
+    requires numbers { NumbersFit context.now.threads.now context.now.position.keys.now }
+    ensures { (shared : SharedState) (t : Thread) (environment : Environment) → IsContext shared t environment context.now
+        → let script = context.now.program.now.script in
+        result ≡ item_at (choices_at (body_at script t.frames) shared t environment (next_of script t.frames) t.status) number }
+{
+    let choices = choices_at(context);
+    let count = choices.count(context.position.keys);
+    if count == 0 {
+        return None;
+    }
+    choices.nth(
+        context.threads,
+        context.position.keys,
+        number as usize % count,
+    )
 }

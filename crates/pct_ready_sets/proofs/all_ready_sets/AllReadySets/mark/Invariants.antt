@@ -1,9 +1,11 @@
-use Rattle.pct_names.proofs.Names.{◌≡◌, ◌++◌, map, take, drop}
-use Rattle.pct_ready_sets.specs.ReadyGroups.{with_stale, all_stale}
+use Rattle.pct_names.proofs.Names.{List, option_map, slice_get, ℕ, ◌<◌, ◌≡◌, ◌≤◌}
+use Rattle.pct_ready_sets.specs.ReadyGroups.{ReadyValue, with_stale}
 use Rattle.pct_ready_sets.proofs.all_ready_sets.AllReadySets.mark.Given as goal
 
-abbrev pub invariant-loop-sets : goal.invariant-loop-sets
-invariant-loop-sets l = l.sets-items ≡ map all_stale (take l.sets-index l.fn.self) ++ drop l.sets-index l.fn.self
+-- the slots are stale on the places before this one, and the others are as they were
+pub record AreMarked (touched : List ℕ) (before now : List ReadyValue) (place : ℕ) : Type 0 where
+  pub done : (i : ℕ) → i < place → slice_get now i ≡ option_map (with_stale touched) (slice_get before i)
+  pub left : (i : ℕ) → place ≤ i → slice_get now i ≡ slice_get before i
 
-abbrev pub invariant-loop-sets-else-is_some : goal.invariant-loop-sets-else-is_some
-invariant-loop-sets-else-is_some l = l.sets-items ≡ map (with_stale l.touched) (take l.sets-index l.fn.self) ++ drop l.sets-index l.fn.self
+abbrev pub invariant-loop-place : goal.invariant-loop-place
+invariant-loop-place l = AreMarked l.touched l.fn.self l.self-inside.sets.items l.place
