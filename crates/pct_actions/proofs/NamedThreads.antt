@@ -18,7 +18,7 @@ use Rattle.pct_process.specs.ProcessViews.{with_row, slots_of, ProcessData}
 use Rattle.pct_process.proofs.ViewedSlots.{own, length-slots_of, slot_here, thread_on_slot-is, thread_with-is}
 use Rattle.pct_actions.specs.ProcessChanges.{IsOnSlot, AreOnSlots, JoinFits, NamedFits, forgotten_key}
 use Rattle.pct_actions.specs.ProcessParts.{on_threads, slot_changed}
-use Rattle.pct_actions.specs.SharedChanges.{forgotten, on_named, requested, woken, woken_from, named_on, NameFits}
+use Rattle.pct_actions.specs.SharedChanges.{forgotten, on_named, requested, woken_by, woken_from, named_on, NameFits}
 use Rattle.pct_actions.proofs.ChangedSlots.{none_changed, none_leaves, one_changed}
 use Rattle.pct_actions.proofs.TableSlots.{seen_at, changed_thread}
 
@@ -52,7 +52,7 @@ broadcast_here : (c : ℕ) (row : KeyValues) (made : ℕ) (o : Option Held)
 unfolding named_after
 broadcast_here c row made None = refl
 broadcast_here c row made (Some h) = λ i. record { made = made; here = by (is_waiting_on c h.thread.status) i } where
-  by : (b : Bool) → with_specific row (thread_of (cond b (woken Broadcast h) h)) ∷ [] ≡ cond b (with_specific row (thread_of (woken Broadcast h))) (with_specific row (thread_of h)) ∷ []
+  by : (b : Bool) → with_specific row (thread_of (cond b (woken_by Broadcast h) h)) ∷ [] ≡ cond b (with_specific row (thread_of (woken_by Broadcast h))) (with_specific row (thread_of h)) ∷ []
   by true = refl
   by false = refl
 
@@ -93,7 +93,7 @@ module _ (row : KeyValues) (id : ℕ) (h : Held) (named : nat_eq h.id id ≡ tru
     by true = sym (ap (λ (b : Bool). cond b (t ∷ []) []) holds)
     by false = sym (ap (λ (b : Bool). cond b (record t { pending = true } ∷ []) []) holds)
 
-  woken_here : map (with_specific row) (thread_of (woken Signalled h) ∷ []) ≡ filter holds_slot (named_after (Some (named_action.Wake id)) t ∷ [])
+  woken_here : map (with_specific row) (thread_of (woken_by Signalled h) ∷ []) ≡ filter holds_slot (named_after (Some (named_action.Wake id)) t ∷ [])
   unfolding named_after
   woken_here =
       sym (ap (λ (b : Bool). filter holds_slot (cond b (record t { status = unblocked Signalled t.status }) t ∷ [])) live
@@ -213,9 +213,9 @@ module _ (keys : Table) (threads : List Slot) (fit : length keys.rows ≡ length
       ∙ ap (map (slot_changed (named_after (Some (named_action.Detach id))))) same
   named_is (Some (named_action.Wake id)) same fits =
       let row : KeyValues = row_at keys (slot_of (length threads) id) in
-      on_named_is keys threads fit (on same) id (with_change (woken Signalled)) (named_after (Some (named_action.Wake id))) refl
+      on_named_is keys threads fit (on same) id (with_change (woken_by Signalled)) (named_after (Some (named_action.Wake id))) refl
       (λ x other. ap (λ (b : Bool). cond (b && holds_slot x) (record x { status = unblocked Signalled x.status }) x) other)
-      (λ h here named holds. ap (λ (o : Option Held). map (with_specific row) (threads_of (option_map (woken Signalled) o))) here ∙ woken_here row id h named holds)
+      (λ h here named holds. ap (λ (o : Option Held). map (with_specific row) (threads_of (option_map (woken_by Signalled) o))) here ∙ woken_here row id h named holds)
       ∙ ap (map (slot_changed (named_after (Some (named_action.Wake id))))) same
   named_is (Some (named_action.WakeAll c)) same fits =
       ap (λ (rows : List KeyValues). slots_of rows (map (with_change (woken_from c)) threads)) (sym (map-id keys.rows))

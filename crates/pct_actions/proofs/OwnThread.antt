@@ -5,7 +5,7 @@ use Rattle.pct_names.proofs.Names.{length, List, map, moved, None, not, onces_af
 use Rattle.pct_names.proofs.Names.{same_Some, set-get_or, SharedState, slice_get, slice_set, Some, subst, sym, Thread, thread_at}
 use Rattle.pct_names.proofs.Names.{Transition, true, written, ℕ, ◌∙◌, ◌∷◌, ◌≡◌}
 use Rattle.pct_model.specs.declared.transition.OwnAction.TheVariants as own_action
-use Rattle.pct_threads.specs.Slots.{Held, Slot, after_change}
+use Rattle.pct_threads.specs.Slots.{Held, Slot, after_change, unless_reclaimed}
 use Rattle.pct_threads.specs.Tables.{slot_at, held_at, is_occupied_at}
 use Rattle.pct_threads.proofs.TableLemmas.{within-occupied}
 use Rattle.pct_keys.specs.Tables.{Table, row_at, no_row}
@@ -13,7 +13,7 @@ use Rattle.pct_engine_laws.specs.Fitting.{Fits}
 use Rattle.pct_process.specs.ThreadViews.{thread_of, threads_of, slot_view, with_specific}
 use Rattle.pct_process.specs.ProcessViews.{with_row, slots_of, ProcessData}
 use Rattle.pct_process.proofs.ViewedSlots.{own}
-use Rattle.pct_actions.specs.OwnChanges.{held_of, own_moved, own_rows, unless_reclaimed}
+use Rattle.pct_actions.specs.OwnChanges.{held_of, own_moved, own_rows}
 use Rattle.pct_actions.specs.ProcessChanges.{KeyFits}
 use Rattle.pct_actions.specs.ProcessParts.{own_made, slot_changed, OwnFits}
 use Rattle.pct_actions.proofs.TableSlots.{changed_slot, held_here}

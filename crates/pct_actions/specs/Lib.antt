@@ -2,3 +2,4 @@ pub mod ProcessChanges
 pub mod ProcessParts
 pub mod OwnChanges
 pub mod SharedChanges
+pub mod Stands

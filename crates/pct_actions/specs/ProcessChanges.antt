@@ -10,11 +10,12 @@ use Rattle.pct_model.specs.declared.transition.SharedAction.{SharedAction}
 use Rattle.pct_model.specs.declared.transition.SharedAction.TheVariants as shared_action
 use Rattle.pct_model.specs.declared.transition.Transition.{Transition}
 use Rattle.pct_model.specs.Actions.{shared_moved}
+use Rattle.pct_model.specs.Environment.{waiters_among}
 use Rattle.pct_model.specs.Keys.{KeyPlace, key_place, key_at, key_with, next_key}
 use Rattle.pct_model.specs.ThreadSlots.{holds_slot, is_ended_status, slot_of}
 use Rattle.pct_model.specs.World.{Thread, SharedState}
 use Rattle.pct_engine_laws.specs.Fitting.{Fits}
-use Rattle.pct_engine_laws.specs.Seen.{SeenSlot, slots_moved}
+use Rattle.pct_engine_laws.specs.Seen.{SeenSlot, slots_moved, threads_on}
 use Rattle.pct_engine_laws.specs.SeenSteps.{thread_with, new_ids_from}
 use Rattle.pct_process.specs.ProcessViews.{thread_on_slot, ProcessData}
 
@@ -23,6 +24,13 @@ use Rattle.pct_process.specs.ProcessViews.{thread_on_slot, ProcessData}
 -- the data of a process after a transition of its thread with an id
 abbrev pub data_moved : ℕ → Transition → ProcessData → ProcessData
 data_moved tid o p = record { slots = slots_moved (length p.slots) tid o p.slots; shared = shared_moved tid o p.shared }
+
+-- ---- what it costs
+
+-- the number of threads that an action on threads unblocks by a broadcast: those that wait on its condition variable
+abbrev pub woken : Option NamedAction → List SeenSlot → ℕ
+woken (Some (named_action.WakeAll c)) slots = length (waiters_among c (threads_on slots))
+woken _ slots = 0
 
 -- ---- what it needs
 

@@ -1,7 +1,9 @@
 -- The parts of a transition of a thread, in words of the data of its process: what it changes in the thread itself and in the globals, then
 -- its actions on what the threads share and on the threads that it names, then the thread that it creates.
-use Rattle.std.specs.Prelude.{◌≡◌, ℕ, true, [], ◌∷◌, length, map, filter, Option, Some, IfSome, nat_eq, slice_get}
+use Rattle.std.specs.Prelude.{◌≡◌, ℕ, true, List, [], ◌∷◌, length, map, filter, Option, Some, IfSome, nat_eq, slice_get}
 use Rattle.std.specs.List.{list_any}
+use Rattle.pct_model.specs.declared.transition.NamedAction.{NamedAction}
+use Rattle.pct_model.specs.declared.transition.NamedAction.TheVariants as named_action
 use Rattle.pct_model.specs.declared.transition.NewThread.{NewThread}
 use Rattle.pct_model.specs.declared.transition.Transition.{Transition}
 use Rattle.pct_model.specs.Actions.{globals_written, moved, named_after, onces_after, shared_after, written}
@@ -11,7 +13,7 @@ use Rattle.pct_engine_laws.specs.Fitting.{Fits}
 use Rattle.pct_engine_laws.specs.Seen.{SeenSlot, on_slot, with_created}
 use Rattle.pct_engine_laws.specs.SeenSteps.{new_ids_from}
 use Rattle.pct_process.specs.ProcessViews.{ProcessData}
-use Rattle.pct_actions.specs.ProcessChanges.{deleted_key, forgotten_key, AreOnSlots, KeyFits, NamedFits, SharedFits}
+use Rattle.pct_actions.specs.ProcessChanges.{deleted_key, forgotten_key, woken, AreOnSlots, KeyFits, NamedFits, SharedFits}
 
 -- ---- slots
 
@@ -39,6 +41,11 @@ others_made o p = record { slots = map (slot_changed (named_after o.named)) p.sl
 -- the process with the thread that a transition creates, if it does
 abbrev pub created_made : Option NewThread → ProcessData → ProcessData
 created_made created p = record p { slots = with_created (length p.slots) created p.slots }
+
+-- the number of records of threads that the actions on the threads that are named take at most
+abbrev pub taken : Option NamedAction → List SeenSlot → ℕ
+taken (Some (named_action.WakeAll c)) slots = woken (Some (named_action.WakeAll c)) slots
+taken _ slots = 1
 
 -- ---- what they need
 

@@ -4,7 +4,10 @@
 mod made;
 mod named_threads;
 mod own_actions;
+mod own_frames;
+mod own_record;
 mod own_thread;
 mod shared_actions;
+mod stand;
 
 pub use made::make;

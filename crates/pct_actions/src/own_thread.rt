@@ -1,6 +1,6 @@
 //! What a transition changes for the thread that makes it, and in the globals.
 
-ghost use Rattle.std.specs.Prelude.{◌≡◌, ◌<◌, ℕ, Some, length, option_map};
+ghost use Rattle.std.specs.Prelude.{◌≡◌, ◌+◌, ◌<◌, ℕ, Some, length, option_map};
 ghost use Rattle.std.specs.Option.{option_to_list};
 ghost use Rattle.pct_model.specs.Actions.{globals_written, onces_after, written};
 ghost use Rattle.pct_process.specs.ProcessViews.{thread_on_slot};
@@ -9,18 +9,30 @@ ghost use Rattle.pct_actions.specs.ProcessChanges.{KeyFits};
 ghost use Rattle.pct_actions.specs.ProcessParts.{own_made, OwnFits};
 
 use crate::own_actions::move_own;
+use crate::stand::put_stand;
 use pct_keys::{Keys, key_place};
 use pct_model::{Dest, OwnAction, Transition, UpToThree};
 use pct_process::{Numbers, OnceControls, ProcessState};
+use pct_threads::Steps;
+use std::sync::ledger::Ledger;
 
 /// Makes the changes of a transition in the thread on a slot, which makes it, in the globals, and in the once controls.
-pub(crate) fn make_own(process: &mut ProcessState, slot: u32, transition: &Transition)
+pub(crate) fn make_own<L: Ledger>(
+    process: &mut ProcessState,
+    slot: u32,
+    transition: &Transition,
+    steps: &mut Steps<L>,
+)
     requires { OwnFits slot transition.now process.old }
-    ensures { (tid : ℕ) → option_map (λ t. t.id) (thread_on_slot process.old.slots slot) ≡ Some tid → process.new ≡ own_made tid slot transition.now process.old }
+    ensures made { (tid : ℕ) → option_map (λ t. t.id) (thread_on_slot process.old.slots slot) ≡ Some tid → process.new ≡ own_made tid slot transition.now process.old }
+    ensures count { steps.new ≡ steps.old + 1 }
 {
+    // A process has at most 64 slots.
+    let _count = process.slot_count();
     let tid = process.id_on(slot);
     change_onces(&mut process.onces, tid, transition.own);
-    move_own(&mut process.threads, slot, transition);
+    let stand = move_own(&mut process.threads, slot, transition, steps);
+    put_stand(&mut process.standings, slot, stand);
     change_data(&mut process.keys, slot, transition.own);
     write_globals(&mut process.globals, &transition.writes);
 }
@@ -55,9 +67,11 @@ fn change_onces(onces: &mut OnceControls, tid: u32, action: Option<OwnAction>)
 fn write_globals(globals: &mut Numbers, writes: &UpToThree<(Dest, u32)>)
     ensures { globals.new ≡ written globals_written writes.now globals.old }
 {
-    write_global(globals, writes.get(0));
-    write_global(globals, writes.get(1));
-    write_global(globals, writes.get(2));
+    if let Some(first) = writes.get(0) {
+        write_global(globals, Some(first));
+        write_global(globals, writes.get(1));
+        write_global(globals, writes.get(2));
+    }
 }
 
 // Writes a value to its destination, if there is one, and it is a global.

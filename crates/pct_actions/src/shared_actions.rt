@@ -1,25 +1,39 @@
 //! What a transition changes in what the threads of a process share, and in the threads that it names.
 
-ghost use Rattle.std.specs.Prelude.{◌≡◌, Some};
+ghost use Rattle.std.specs.Prelude.{◌≡◌, ◌+◌, ◌≤◌, Some};
 ghost use Rattle.pct_model.specs.Actions.{shared_after};
 ghost use Rattle.pct_model.specs.Keys.{key_place, without_key};
 ghost use Rattle.pct_actions.specs.ProcessChanges.{deleted_key, SharedFits};
-ghost use Rattle.pct_actions.specs.ProcessParts.{others_made, OthersFit};
+ghost use Rattle.pct_actions.specs.ProcessParts.{others_made, taken, OthersFit};
 ghost use Rattle.pct_actions.specs.SharedChanges.{forgotten};
 
 use crate::named_threads::act_on_named;
 use pct_keys::key_place;
 use pct_model::{SharedAction, Transition};
 use pct_process::ProcessState;
+use pct_threads::Steps;
+use std::sync::ledger::Ledger;
 
 /// Makes the change of a transition in what the threads share, and in the threads that it names. A key that is
 /// deleted is deleted with all its values.
-pub(crate) fn act_on_others(process: &mut ProcessState, transition: &Transition)
+pub(crate) fn act_on_others<L: Ledger>(
+    process: &mut ProcessState,
+    transition: &Transition,
+    steps: &mut Steps<L>,
+)
     requires { OthersFit transition.now process.old }
-    ensures { process.new ≡ others_made transition.now process.old }
+    ensures made { process.new ≡ others_made transition.now process.old }
+    ensures count { steps.new ≤ steps.old + taken transition.now.named process.old.slots }
 {
     act_on_shared(process, transition.shared);
-    act_on_named(&mut process.threads, transition.named);
+    // A process has at most 64 slots.
+    let _count = process.slot_count();
+    act_on_named(
+        &mut process.threads,
+        &mut process.standings,
+        transition.named,
+        steps,
+    );
 }
 
 // Makes the change of an action, if there is one, in what the threads share.

@@ -1,5 +1,6 @@
 mod ForkingThreads
 pub mod ReachedStates
+mod WokenThreads
 mod OpenChoices
 mod EngineRuns
 mod EngineChoices

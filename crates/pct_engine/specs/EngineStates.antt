@@ -1,10 +1,18 @@
 -- What an engine represents: the run of its script under its history.
-use Rattle.std.specs.Prelude.{◌≡◌, ℕ, true, List, [], ◌∷◌, ◌++◌, length, reverse, Option, Some, None, is_some, IsSomeAnd}
+use Rattle.std.specs.Prelude.{◌≡◌, ℕ, true, List, [], ◌∷◌, ◌++◌, find, length, reverse, Option, Some, None, is_some, IsSomeAnd}
+use Rattle.std.specs.Option.{option_map_or}
 use Rattle.pct_model.specs.declared.script.Script.{Script}
 use Rattle.pct_model.specs.declared.schedule.Config.{Config}
 use Rattle.pct_model.specs.declared.schedule.Entry.{Entry}
 use Rattle.pct_model.specs.declared.stop.Verdict.TheVariants as verdict
+use Rattle.pct_model.specs.declared.transition.NamedAction.{NamedAction}
+use Rattle.pct_model.specs.declared.transition.NamedAction.TheVariants as named_action
+use Rattle.pct_model.specs.Actions.{is_live_process}
 use Rattle.pct_model.specs.Chosen.{chosen}
+use Rattle.pct_model.specs.Environment.{waiters_among}
+use Rattle.pct_model.specs.Step.{transition_of}
+use Rattle.pct_model.specs.ThreadSlots.{by_slot}
+use Rattle.pct_model.specs.World.{Process, World}
 use Rattle.pct_laws.specs.Kept.{Kept}
 use Rattle.pct_laws.specs.Laws.{Laws}
 use Rattle.pct_model.specs.Run.{Run, run, verdict_of}
@@ -53,3 +61,14 @@ pub record IsChoice (engine : EngineValue) (after : Run) (worker a b : ℕ) (ans
   pub scheduled : verdict_of engine.script engine.config after.world (length engine.history) ≡ verdict.Open → answer ≡ chosen engine.script engine.config after.world worker a b
   pub legal : verdict_of engine.script engine.config after.world (length engine.history) ≡ verdict.Open → IsSomeAnd answer (IsRunWith engine)
   pub closed : ¬ (verdict_of engine.script engine.config after.world (length engine.history) ≡ verdict.Open) → answer ≡ None
+
+-- ---- what a step costs
+
+-- the number of threads of a process that an action on threads unblocks by a broadcast: those that wait on its condition variable
+abbrev pub woken_of : ℕ → Option NamedAction → Process → ℕ
+woken_of slots (Some (named_action.WakeAll c)) p = length (waiters_among c (by_slot slots p.threads))
+woken_of slots _ p = 0
+
+-- the number of threads that the step of an entry unblocks by a broadcast
+abbrev pub woken_by : Script → Config → World → Entry → ℕ
+woken_by script config w e = option_map_or (λ o. option_map_or (woken_of config.slots o.named) (find (is_live_process e.pid) w.processes) 0) (transition_of script config w e) 0

@@ -1,9 +1,9 @@
 //! The engine: a run of a script, step by step.
 
-ghost use Rattle.std.specs.Prelude.{◌≡◌, ◌↔◌, true, [], ◌∷◌, ◌++◌, IsOk, OnOk, OnErr, is_some};
-ghost use Rattle.pct_model.specs.Run.{run};
+ghost use Rattle.std.specs.Prelude.{◌≡◌, ◌↔◌, ◌≤◌, ◌+◌, true, [], ◌∷◌, ◌++◌, Some, IsOk, OnOk, OnErr, is_some};
+ghost use Rattle.pct_model.specs.Run.{Run, run};
 ghost use Rattle.pct_model.specs.Formats.{has_timeouts};
-ghost use Rattle.pct_engine.specs.EngineStates.{StandsFor};
+ghost use Rattle.pct_engine.specs.EngineStates.{StandsFor, woken_by};
 ghost use Rattle.pct_ready_sets.specs.ReadyConditions.{FollowAll};
 
 use crate::trace::Trace;
@@ -11,9 +11,11 @@ use pct_io::NoMemory;
 use pct_machine::{Draw, Machine, ProcessView};
 use pct_model::{Config, Entry, Event, Script, Verdict};
 use pct_ready_sets::AllReadySets;
+use pct_threads::Steps;
 use pct_transitions::{Program, no_change};
 use std::alloc::Global;
 use std::marker::Model;
+use std::sync::ledger::Ledger;
 
 /// The error of an entry that is not legal, or for which the budget has no step left.
 #[derive(Clone, Copy, Debug, PartialEq, Eq)]
@@ -43,12 +45,12 @@ impl Model for Engine {
 }
 
 impl Engine {
-    ghost use Rattle.std.specs.Prelude.{◌≡◌, ◌↔◌, ◌*◌, ◌≤◌, [], ◌∷◌, ◌++◌, length, reverse, IfOk, IfNone, IfSome, IsOk, OnOk, OnErr, IsTrue, slice_get};
+    ghost use Rattle.std.specs.Prelude.{◌≡◌, ◌↔◌, ◌+◌, ◌*◌, ◌≤◌, [], ◌∷◌, ◌++◌, length, reverse, IfOk, IfNone, IfSome, IsOk, OnOk, OnErr, IsTrue, slice_get};
     ghost use Rattle.pct_model.specs.declared.limits.TheConstants.{MAX_PROCESSES, MAX_WORKER};
     ghost use Rattle.pct_model.specs.Run.{Run, is_config, verdict_of};
     ghost use Rattle.pct_engine_laws.specs.Seen.{seen};
     ghost use Rattle.pct_machine.specs.ShownProcesses.{ShowsIfSome};
-    ghost use Rattle.pct_engine.specs.EngineStates.{IsRunOf, IsRunWith, IsAllowed, IsChoice, KeepsLaws};
+    ghost use Rattle.pct_engine.specs.EngineStates.{IsRunOf, IsRunWith, IsAllowed, IsChoice, KeepsLaws, woken_by};
 
     /// The engine of the run without entries. It takes the memory of the whole run: `budget` entries, three events for each,
     /// and all tables; no other call takes memory. `NoMemory` is returned if that does not fit into memory.
@@ -69,14 +71,17 @@ impl Engine {
     }
 
     /// Makes the step of an entry, and records the entry and its events. `NotLegal` is returned exactly if the verdict is not
-    /// `Open` or the entry is not legal, and then the run is as it was.
-    pub fn step(&mut self, entry: Entry) -> Result<(), NotLegal>
+    /// `Open` or the entry is not legal, and then the run is as it was. However many threads there are, at most four records of threads
+    /// are lent, and one for each thread that a broadcast wakes: that of the thread itself twice, that of a thread that its step names,
+    /// and that of the replica that a fork makes.
+    pub fn step<L: Ledger>(&mut self, entry: Entry, steps: &mut Steps<L>) -> Result<(), NotLegal>
         ensures made { OnOk result (self.new ≡ record self.old { history = self.old.history ++ entry ∷ [] }) }
         ensures legal { IsOk result ↔ IsRunWith self.old entry }
         ensures cause { (after : Run) → IsRunOf self.old after → IsOk result ↔ IsAllowed self.old after entry }
         ensures same { OnErr result (self.new ≡ self.old) }
         // Of every legal schedule: the run keeps the laws, and its state keeps the invariant.
         ensures laws { (after : Run) → IsRunOf self.new after → KeepsLaws self.new after }
+        ensures count { (before : Run) → IsRunOf self.old before → steps.new ≤ steps.old + 4 + woken_by self.old.script self.old.config before.world entry }
     {
         step_with(
             &self.program,
@@ -84,6 +89,7 @@ impl Engine {
             &mut self.sets,
             &mut self.trace,
             entry,
+            steps,
         )
     }
 
@@ -193,12 +199,13 @@ impl Engine {
 }
 
 // Makes the step of an entry, and records it with its events.
-fn step_with(
+fn step_with<L: Ledger>(
     program: &Program,
     machine: &mut Machine,
     sets: &mut AllReadySets,
     trace: &mut Trace,
     entry: Entry,
+    steps: &mut Steps<L>,
 ) -> Result<(), NotLegal>
     requires stands { StandsFor program.now trace.old machine.old }
     requires follow { FollowAll program.now.script (has_timeouts program.now.config.format) machine.old.processes sets.old }
@@ -207,12 +214,13 @@ fn step_with(
     ensures same { OnErr result (trace.new.history ≡ trace.old.history) }
     ensures stands { StandsFor program.now trace.new machine.new }
     ensures follow { FollowAll program.now.script (has_timeouts program.now.config.format) machine.new.processes sets.new }
+    ensures count { (before : Run) → run program.now.script program.now.config trace.old.history ≡ Some before → steps.new ≤ steps.old + 4 + woken_by program.now.script program.now.config before.world entry }
 {
     if !trace.has_room() {
         return Err(NotLegal);
     }
     let mut transition = no_change();
-    if !machine.step(program, sets, &entry, &mut transition) {
+    if !machine.step(program, sets, &entry, &mut transition, steps) {
         return Err(NotLegal);
     }
     trace.record_step(&entry, &transition.events);

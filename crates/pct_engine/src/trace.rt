@@ -51,11 +51,12 @@ impl Trace {
     }
 
     /// Records an entry and the events of its step.
+    #[inline(always)]
     pub fn record_step(&mut self, entry: &Entry, new_events: &UpToThree<What>)
         requires { length self.old.history < self.old.budget }
         ensures { self.new ≡ record self.old { history = self.old.history ++ entry.now ∷ []; events = self.old.events ++ map (event_of entry.now) new_events.now } }
     {
-        record_events(&mut self.events, entry, new_events, 0);
+        record_all(&mut self.events, entry, new_events);
         self.history.push(*entry).unwrap();
     }
 
@@ -76,7 +77,22 @@ impl Trace {
     }
 }
 
+// Records the events of the step of an entry. There are at most three, and most often none.
+#[inline(always)]
+fn record_all(events: &mut Vec<Event>, entry: &Entry, new_events: &UpToThree<What>)
+    requires { vec_len events.old + 3 ≤ vec_capacity events.old }
+    ensures last { events.new.items ≡ events.old.items ++ map (event_of entry.now) new_events.now }
+    ensures few { vec_len events.new ≤ vec_len events.old + 3 }
+    ensures capacity { vec_capacity events.old ≤ vec_capacity events.new }
+{
+    match new_events.get(0) {
+        None => {}
+        Some(_) => record_events(events, entry, new_events, 0),
+    }
+}
+
 // Records the events of the step of an entry, from an index on. There are at most three.
+#[inline(never)]
 fn record_events(events: &mut Vec<Event>, entry: &Entry, new_events: &UpToThree<What>, from: usize)
     requires { vec_len events.old + (3 - from) ≤ vec_capacity events.old }
     ensures last { events.new.items ≡ events.old.items ++ map (event_of entry.now) (drop from new_events.now) }

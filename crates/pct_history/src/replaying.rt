@@ -1,6 +1,6 @@
 //! The run of a script under a given schedule.
 
-ghost use Rattle.std.specs.Prelude.{◌≡◌, ◌≤◌, true, [], length, IfErr, IfNone, IfOk, IsTrue};
+ghost use Rattle.std.specs.Prelude.{◌≡◌, ◌≤◌, ◌<◌, true, [], length, IfErr, IfNone, IfOk, IsTrue};
 ghost use Rattle.pct_model.specs.Run.{Run, is_config};
 ghost use Rattle.pct_engine.specs.EngineStates.{IsRunOf, KeepsLaws};
 ghost use Rattle.pct_history.specs.Replays.{Follows, StopsReplay};
@@ -9,7 +9,10 @@ use crate::replay_fault::ReplayFault;
 use pct_engine::{Engine, NotLegal};
 use pct_io::NoMemory;
 use pct_model::{Config, Entry, Script};
+use pct_threads::Steps;
 use std::alloc::Global;
+use std::marker::Brand;
+use std::sync::ledger::{Blank, Ledger};
 
 /// Runs a script under a schedule: it makes the step of each entry in turn. The engine that is returned has made them all,
 /// and may make further steps.
@@ -31,7 +34,7 @@ pub fn replay(
     ensures stopped { IfErr result (λ fault. StopsReplay script config entries.now fault) }
 {
     let mut engine = Engine::open(alloc, script, config)?;
-    match make_steps(&mut engine, entries) {
+    match make_steps::<Brand>(&mut engine, entries, Blank::new(1)) {
         None => Ok(engine),
         Some(entry_number) => Err(ReplayFault::NotLegal { entry_number }),
     }
@@ -52,22 +55,27 @@ pub fn follow(
     ensures { IfOk result (λ parts. Follows script config entries.now parts.0 parts.1) }
 {
     let mut engine = Engine::open(alloc, script, config)?;
-    let illegal = make_steps(&mut engine, entries);
+    let illegal = make_steps::<Brand>(&mut engine, entries, Blank::new(1));
     Ok((engine, illegal))
 }
 
-// Makes the steps of the entries up to the first that is not legal, and returns the number of that one, counted from 1.
-fn make_steps(engine: &mut Engine, entries: &[Entry]) -> Option<u32>
+// Makes the steps of the entries up to the first that is not legal, and returns the number of that one, counted from 1. The
+// records of threads that are lent are counted from 0 on.
+fn make_steps<L: Ledger>(engine: &mut Engine, entries: &[Entry], blank: Blank) -> Option<u32>
+    requires name { blank.name ≡ L.name }
+    requires parts { blank.parts ≡ L.parts }
+    requires some { 0 < blank.parts }
     requires opened { engine.old.history ≡ [] }
     requires config { IsTrue (is_config engine.old.config) }
     requires few { length entries.now ≤ engine.old.config.budget }
     ensures follows { Follows engine.old.script engine.old.config entries.now engine.new result }
     ensures runs { IfNone result ((after : Run) × IsRunOf engine.new after) }
 {
+    let mut steps = Steps::<L>::new(blank);
     let mut entry_number = 0;
     for entry in entries {
         entry_number += 1;
-        if let Err(NotLegal) = engine.step(*entry) {
+        if let Err(NotLegal) = engine.step(*entry, &mut steps) {
             return Some(entry_number);
         }
     }

@@ -6,3 +6,4 @@ pub mod Prefixes
 pub mod Fifo
 pub mod BufferedWrites
 pub mod Joined
+pub mod TwoDigits

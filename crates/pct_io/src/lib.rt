@@ -18,7 +18,7 @@ pub use buffered_sink::BufferedSink;
 pub use failed::{Failed, NoMemory, ReadEnd};
 pub use gate::{Gate, NoGate};
 pub use line::{Field, prepend_line, write_line, write_spaced_field};
-pub use line_buffer::{prepend, prepend_number};
+pub use line_buffer::{prepend, prepend_number, prepend_short};
 pub use memory::{MemSink, MemSource};
 pub use read_write::{read_all, write_all, write_parts};
 pub use sink::Sink;

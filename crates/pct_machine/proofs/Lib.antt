@@ -1,6 +1,7 @@
 mod FittingTransitions
 pub mod StepsOfProcess
 mod LegalEntries
+mod WokenThreads
 mod HeldSlots
 mod ChangedLists
 mod ForkedChildren

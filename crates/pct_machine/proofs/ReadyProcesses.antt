@@ -1,5 +1,6 @@
 -- The threads of several processes that are ready: the verdict, and the choice of the scheduler.
-use Rattle.pct_names.proofs.Names.{add-one, filter, slice_get_past, Thread}
+use Rattle.pct_names.proofs.Names.{add-one, eqb-false, filter, slice_get_past, subst, Thread}
+use Rattle.std.proofs.lemmas.Bool.{eqb-true}
 use Rattle.pct_names.proofs.Names.{◌%◌, ◌+◌, ◌++◌, ◌-◌, [], Alt, ap, arith, Bool, Candidate, cond, Config, Entry, entry_for, false, Family}
 use Rattle.pct_names.proofs.Names.{flat_map, has_timeouts, IfSome, is_some, item_at, length, length-map, List, list_all, list_any, map}
 use Rattle.pct_names.proofs.Names.{nat_eq, None, none-some, not, Option, option_and_then, option_map, refl, same_Some, Script, slice_get}
@@ -9,12 +10,14 @@ use Rattle.pct_model.specs.declared.stop.Verdict.TheVariants as verdict
 use Rattle.pct_engine_laws.specs.Seen.{SeenProcess, Seen, threads_on, family_in}
 use Rattle.pct_engine_laws.specs.SeenSteps.{is_ready_in, ready_in, candidate_in, has_ready_in, seen_candidates, seen_chosen, seen_transition, seen_verdict, seen_verdict_by}
 use Rattle.pct_process.specs.ProcessViews.{thread_on_slot}
+use Rattle.pct_machine.specs.declared.scheduler.Pick.{Pick}
+use Rattle.pct_machine.specs.declared.scheduler.Pick.TheVariants as pick
 use Rattle.pct_machine.specs.declared.scheduler.Seat.{Seat}
 use Rattle.pct_machine.specs.ProcessSteps.{AllCanStep}
 use Rattle.pct_machine.specs.MachineSteps.{legal_transition}
-use Rattle.pct_machine.specs.Candidates.{Picked, Here, Before, candidates_of, candidates_among, candidate_on, pick_after, IsSeat}
+use Rattle.pct_machine.specs.Candidates.{Picked, Here, Before, candidates_of, candidates_among, candidate_on, pick_after, picked, IfHere, IsSeat}
 use Rattle.pct_machine.proofs.LegalEntries.{admitted}
-use Rattle.pct_machine.proofs.Picks.{among}
+use Rattle.pct_machine.proofs.Picks.{among, none_here, one_before}
 use Rattle.pct_machine.proofs.ReadySlots.{as_many, ready_at}
 
 -- ---- one process
@@ -42,6 +45,23 @@ module _ (script : Script) (timeouts : Bool) (family : Family) (p : SeenProcess)
     by true is =
         let none : length set ≡ 0 = as_many p.slots set (ready_in script timeouts (length p.slots) family p) are ∙ ap (λ (b : Bool). length (cond b [] (filter (is_ready_in script timeouts (length p.slots) family p) (threads_on p.slots)))) is in
         absurd (none-some slot (sym (slice_get_past set j (omega (arith, none))) ∙ sym at))
+
+-- ---- without processes
+
+-- what a number chooses, where there is no process
+module _ (before number : ℕ) (p : Pick) (is : p ≡ cond (nat_eq before 0) pick.Nobody (pick.Before (number % before))) where
+  pub picked_before : (script : Script) (timeouts : Bool) (seen_by : ℕ → Family) (ps : List SeenProcess) → picked script timeouts seen_by ps p ≡ pick_after before number []
+  picked_before script timeouts seen_by ps = ap (picked script timeouts seen_by ps) is ∙ by (nat_eq before 0) refl where
+    by : (b : Bool) → nat_eq before 0 ≡ b → picked script timeouts seen_by ps (cond b pick.Nobody (pick.Before (number % before))) ≡ pick_after before number []
+    by true none = none_here before number (eqb-true before 0 none)
+    by false some = one_before before number (omega (arith, eqb-false before 0 some))
+
+  -- it is no seat
+  pub seated_before : (P : Seat → Type 0) → IfHere p P
+  seated_before P = subst (λ (q : Pick). IfHere q P) (sym is) (by (nat_eq before 0)) where
+    by : (b : Bool) → IfHere (cond b pick.Nobody (pick.Before (number % before))) P
+    by true = tt
+    by false = tt
 
 -- ---- seats
 

@@ -7,9 +7,11 @@ use crate::scheduler::{Draw, Pick, Seat};
 use pct_io::NoMemory;
 use pct_model::{Entry, MAX_WORKER, Script, Transition, Verdict, Why};
 use pct_ready_sets::AllReadySets;
+use pct_threads::Steps;
 use pct_transitions::Program;
 use std::alloc::Global;
-use std::marker::Model;
+use std::marker::{Brand, Model};
+use std::sync::ledger::{Blank, Ledger};
 
 /// The state of a run. In a contract it is what is kept of the state of the machine: the processes that are not reaped, by rising id,
 /// each with its slots and what its threads share; the number of processes ever made; and the reason of the stop, if the run was
@@ -29,7 +31,7 @@ impl Model for Machine {
 }
 
 impl Machine {
-    ghost use Rattle.std.specs.Prelude.{◌≡◌, ◌≤◌, ℕ, true, false, if◌then◌else◌, is_some, length, slice_get, option_and_then, Some, IfOk, IfSome, IfNone};
+    ghost use Rattle.std.specs.Prelude.{◌≡◌, ◌≤◌, ◌<◌, ◌+◌, ℕ, true, false, if◌then◌else◌, is_some, length, slice_get, option_and_then, Some, IfOk, IfSome, IfNone};
     ghost use Rattle.pct_model.specs.declared.limits.TheConstants.{MAX_PROCESSES, MAX_SLOTS, MAX_WORKER};
     ghost use Rattle.pct_model.specs.Chosen.{entry_for};
     ghost use Rattle.pct_model.specs.World.{opening};
@@ -39,7 +41,7 @@ impl Machine {
     ghost use Rattle.pct_machine.specs.ListChanges.{ChangeFits, list_in, list_moved, seen_finished};
     ghost use Rattle.pct_machine.specs.Places.{ProcessList};
     ghost use Rattle.pct_machine.specs.ProcessSteps.{AllCanStep, EachCanStep, some_if};
-    ghost use Rattle.pct_machine.specs.MachineSteps.{legal_transition};
+    ghost use Rattle.pct_machine.specs.MachineSteps.{legal_transition, woken_in};
     ghost use Rattle.pct_model.specs.Formats.{has_timeouts};
     ghost use Rattle.pct_machine.specs.ShownProcesses.{ShowsIfSome};
     ghost use Rattle.pct_ready_sets.specs.ReadyConditions.{FollowAll};
@@ -58,26 +60,29 @@ impl Machine {
     }
 
     /// Makes the step of an entry, and writes the transition that it takes to `transition`. The result is false exactly if the entry is
-    /// not legal, and then the machine is as it was. The slots that the step touches become stale.
-    pub fn step(
+    /// not legal, and then the machine is as it was. The slots that the step touches become stale. At most four records of threads are
+    /// lent, and one for each thread that a broadcast wakes.
+    pub fn step<L: Ledger>(
         &mut self,
         program: &Program,
         sets: &mut AllReadySets,
         entry: &Entry,
         transition: &mut Transition,
+        steps: &mut Steps<L>,
     ) -> bool
         requires { AllCanStep program.now.config.slots self.old.processes self.old.made }
         ensures legal { legal_transition program.now.script program.now.config self.old entry.now ≡ some_if result transition.new }
         ensures made { self.new ≡ (if result then seen_after program.now.config.slots entry.now.pid entry.now.tid transition.new self.old else self.old) }
         ensures follow { FollowAll program.now.script (has_timeouts program.now.config.format) self.old.processes sets.old → FollowAll program.now.script (has_timeouts program.now.config.format) self.new.processes sets.new }
+        ensures count { steps.new ≤ steps.old + 4 + woken_in entry.now.pid (some_if result transition.new) self.old.processes }
     {
         if self.stop.is_some() || entry.worker > MAX_WORKER {
             return false;
         }
-        if !self.processes.step(program, entry, transition) {
+        if !self.processes.step(program, entry, transition, steps) {
             return false;
         }
-        self.finish(program, sets, entry, transition);
+        self.finish(program, sets, entry, transition, steps);
         true
     }
 
@@ -100,28 +105,59 @@ impl Machine {
         ensures same { IfNone result (self.new ≡ self.old) }
         ensures follow { FollowAll program.now.script (has_timeouts program.now.config.format) self.new.processes sets.new }
     {
+        self.advance_counted::<Brand>(program, sets, draw, transition, Blank::new(1))
+    }
+
+    // The same, where the records of threads that are lent are counted from 0 on.
+    #[inline(always)]
+    fn advance_counted<L: Ledger>(
+        &mut self,
+        program: &Program,
+        sets: &mut AllReadySets,
+        draw: Draw,
+        transition: &mut Transition,
+        blank: Blank,
+    ) -> Option<Entry>
+        requires name { blank.name ≡ L.name }
+        requires parts { blank.parts ≡ L.parts }
+        requires some { 0 < blank.parts }
+        requires can { AllCanStep program.now.config.slots self.old.processes self.old.made }
+        requires follow { FollowAll program.now.script (has_timeouts program.now.config.format) self.old.processes sets.old }
+        requires worker { draw.worker ≤ MAX_WORKER }
+        ensures value { result ≡ seen_chosen program.now.script program.now.config self.old draw.worker draw.thread draw.choice }
+        ensures legal { IfSome result (λ e. legal_transition program.now.script program.now.config self.old e ≡ Some transition.new) }
+        ensures made { IfSome result (λ e. self.new ≡ seen_after program.now.config.slots e.pid e.tid transition.new self.old) }
+        ensures same { IfNone result (self.new ≡ self.old) }
+        ensures follow { FollowAll program.now.script (has_timeouts program.now.config.format) self.new.processes sets.new }
+    {
         if self.stop.is_some() {
             return None;
         }
         self.refresh(program, sets);
         let seat = self.seat(program, sets, draw.thread)?;
-        let entry = self.processes.advance(program, seat, draw, transition)?;
-        self.finish(program, sets, &entry, transition);
+        let mut steps = Steps::<L>::new(blank);
+        let entry = self
+            .processes
+            .advance(program, seat, draw, transition, &mut steps)?;
+        self.finish(program, sets, &entry, transition, &mut steps);
         Some(entry)
     }
 
     // Makes what a step of the thread of an entry changes beside the data of its process.
-    fn finish(
+    #[inline(always)]
+    fn finish<L: Ledger>(
         &mut self,
         program: &Program,
         sets: &mut AllReadySets,
         entry: &Entry,
         transition: &Transition,
+        steps: &mut Steps<L>,
     )
         requires { IfSome transition.now.process (λ c. ChangeFits entry.now.pid entry.now.tid c (list_in self.old)) }
         ensures made { self.new ≡ seen_finished entry.now.pid entry.now.tid transition.now self.old }
         // If this is what is left of a step of these processes, which the sets followed.
         ensures follow { (before : ProcessList) → EachCanStep program.now.config.slots before.processes → list_in self.old ≡ list_moved program.now.config.slots entry.now.pid entry.now.tid transition.now before → FollowAll program.now.script (has_timeouts program.now.config.format) before.processes sets.old → FollowAll program.now.script (has_timeouts program.now.config.format) self.new.processes sets.new }
+        ensures count { steps.new ≤ steps.old + 1 }
     {
         match transition.process {
             None => sets.mark(
@@ -133,7 +169,7 @@ impl Machine {
             Some(_) => sets.mark_all(),
         }
         self.processes
-            .change(entry.pid, entry.tid, transition.process);
+            .change(entry.pid, entry.tid, transition.process, steps);
         self.stop = transition.stop;
     }
 
@@ -172,6 +208,7 @@ impl Machine {
     }
 
     // The seat of the thread that a number chooses among those that are ready, where the run was not stopped. `None` if no thread is ready.
+    #[inline(always)]
     fn seat(&self, program: &Program, sets: &AllReadySets, number: u32) -> Option<Seat>
         requires can { AllCanStep program.now.config.slots self.now.processes self.now.made }
         requires follow { FollowAll program.now.script (has_timeouts program.now.config.format) self.now.processes sets.now }

@@ -8,11 +8,13 @@ use pct_model::{Entry, ProcessAction, Relative, Script, Transition};
 use pct_process::ProcessState;
 use pct_ready_sets::{AllReadySets, ReadySets, ready_slots as ready_by_sets};
 use pct_set::SlotSet;
+use pct_threads::Steps;
 use pct_transitions::{
     Program, Surroundings, choice_by, transition_by_number, transition_if_offered,
 };
 use std::alloc::Global;
 use std::marker::Model;
+use std::sync::ledger::Ledger;
 
 /// A place of a machine for a process. In a contract it is what is kept of the process.
 #[derive(Drop)]
@@ -31,7 +33,7 @@ impl Model for Place {
 }
 
 impl Place {
-    ghost use Rattle.std.specs.Prelude.{◌≡◌, ◌≢◌, ◌≤◌, ℕ, slice_get, true, false, ◌&&◌, nat_eq, [], ◌∷◌, length, map, Some, is_some, if◌then◌else◌, IfOk, IfSome};
+    ghost use Rattle.std.specs.Prelude.{◌≡◌, ◌≢◌, ◌≤◌, ◌+◌, ℕ, slice_get, true, false, ◌&&◌, nat_eq, [], ◌∷◌, length, map, Some, is_some, if◌then◌else◌, IfOk, IfSome};
     ghost use Rattle.pct_model.specs.Chosen.{entry_for};
     ghost use Rattle.pct_model.specs.declared.limits.TheConstants.{MAX_SLOTS};
     ghost use Rattle.pct_model.specs.Formats.{has_timeouts};
@@ -41,6 +43,7 @@ impl Place {
     ghost use Rattle.pct_process.specs.FamilyViews.{other_processes};
     ghost use Rattle.pct_process.specs.ProcessViews.{thread_on_slot};
     ghost use Rattle.pct_model.specs.declared.transition.ProcessAction.TheVariants as process_action;
+    ghost use Rattle.pct_actions.specs.ProcessChanges.{woken};
     ghost use Rattle.pct_machine.specs.Candidates.{takes_in};
     ghost use Rattle.pct_machine.specs.ListChanges.{process_changed, process_after_entry};
     ghost use Rattle.pct_machine.specs.ProcessSteps.{CanStep, HasThread, taken_in, some_if};
@@ -114,6 +117,7 @@ impl Place {
     }
 
     /// The same, by the sets of its slots.
+    #[inline(always)]
     pub fn ready_by(&self, around: Surroundings, sets: &ReadySets) -> SlotSet
         requires { Follows around.program.now.script (has_timeouts around.program.now.config.format) self.now sets.now }
         ensures { map (thread_on_slot self.now.slots) result ≡ map (λ t. Some t) (ready_in around.entry.program.now.script (has_timeouts around.entry.program.now.config.format) (length self.now.slots) (other_processes around.entry.family) self.now) }
@@ -125,6 +129,7 @@ impl Place {
     }
 
     /// Looks again at the slots that are stale, where this process is on a place.
+    #[inline(always)]
     pub fn refresh(&self, program: &Program, sets: &mut AllReadySets, place: usize)
         requires { FollowsAt program.now.script (has_timeouts program.now.config.format) self.now place sets.old }
         ensures here { FollowsAt program.now.script (has_timeouts program.now.config.format) self.now place sets.new }
@@ -162,12 +167,13 @@ impl Place {
     /// it takes to `transition`. `None` if the thread has no choice, and then the process is as it was. What the transition changes beside
     /// the data of the process is left to the caller.
     #[inline(always)]
-    pub fn advance(
+    pub fn advance<L: Ledger>(
         &mut self,
         around: Surroundings,
         slot: u32,
         draw: Draw,
         transition: &mut Transition,
+        steps: &mut Steps<L>,
     ) -> Option<Entry>
         requires can { CanStep around.program.now.config.slots self.old }
         requires held { is_some (thread_on_slot self.old.slots slot) ≡ true }
@@ -177,9 +183,9 @@ impl Place {
         ensures taken { IfSome result (λ e. taken_in around.entry.program.now.script around.entry.program.now.config (other_processes around.entry.family) self.old e ≡ Some transition.new) }
         ensures made { self.new ≡ process_after_entry around.entry.program.now.config.slots transition.new result self.old }
     {
-        let alt = transition_by_number(around, &self.state, slot, draw.choice, transition)?;
+        let alt = transition_by_number(around, &self.state, slot, draw.choice, transition, steps)?;
         let tid = self.state.id_on(slot);
-        make(&mut self.state, slot, transition);
+        make(&mut self.state, slot, transition, steps);
         Some(Entry {
             worker: draw.worker,
             pid: self.relative.pid,
@@ -203,27 +209,36 @@ impl Place {
 
     /// Makes the step of an entry of a thread of the process, and writes the transition that it takes to `transition`. The result is
     /// false exactly if no thread with the id of the entry holds its slot or the choice is not offered, and then the process is as it
-    /// was. What the transition changes beside the data of the process is left to the caller.
+    /// was. What the transition changes beside the data of the process is left to the caller. At most three records of threads are lent, and
+    /// one for each thread that a broadcast wakes.
     #[inline(always)]
-    pub fn step(&mut self, around: Surroundings, entry: &Entry, transition: &mut Transition) -> bool
+    pub fn step<L: Ledger>(
+        &mut self,
+        around: Surroundings,
+        entry: &Entry,
+        transition: &mut Transition,
+        steps: &mut Steps<L>,
+    ) -> bool
         requires { CanStep around.program.now.config.slots self.old }
         ensures taken { taken_in around.entry.program.now.script around.entry.program.now.config (other_processes around.entry.family) self.old entry.now ≡ some_if result transition.new }
         ensures made { self.new ≡ (if result then process_seen around.entry.program.now.config.slots entry.now.tid transition.new self.old else self.old) }
+        ensures count { steps.new ≤ steps.old + 3 + (if result then woken transition.new.named self.old.slots else 0) }
     {
         let Some(slot) = self.state.slot_with(entry.tid) else {
             return false;
         };
-        if !transition_if_offered(around, &self.state, slot, entry.alt, transition) {
+        if !transition_if_offered(around, &self.state, slot, entry.alt, transition, steps) {
             return false;
         }
-        make(&mut self.state, slot, transition);
+        make(&mut self.state, slot, transition, steps);
         true
     }
 
     /// Makes this process the child with an id that a fork by the thread with an id of a process makes.
-    pub fn inherit(&mut self, parent: &Place, tid: u32, pid: u32)
+    pub fn inherit<L: Ledger>(&mut self, parent: &Place, tid: u32, pid: u32, steps: &mut Steps<L>)
         requires { HasThread tid parent.now.slots }
-        ensures { self.new ≡ child_seen tid pid parent.now }
+        ensures child { self.new ≡ child_seen tid pid parent.now }
+        ensures count { steps.new ≤ steps.old + 1 }
     {
         let Some(slot) = parent.state.slot_with(tid) else {
             return;
@@ -233,7 +248,7 @@ impl Place {
             parent: parent.relative.pid,
             ended: None,
         };
-        self.state.inherit(&parent.state, slot);
+        self.state.inherit(&parent.state, slot, steps);
     }
 
     /// Makes a change of the list of processes by a thread of the process with this id in this process, which may be that process or

@@ -15,9 +15,11 @@ use crate::scheduler::{Draw, Seat};
 use pct_io::NoMemory;
 use pct_model::{Entry, MAX_PROCESSES, ProcessAction, Relative, Script, Transition};
 use pct_process::{Family, Relatives};
+use pct_threads::Steps;
 use pct_transitions::{Program, Surroundings};
 use std::alloc::Global;
 use std::marker::Model;
+use std::sync::ledger::Ledger;
 
 /// The processes of a run. In a contract it is the list of those that are not reaped, by rising id, and the number of processes ever made.
 #[derive(Drop)]
@@ -53,6 +55,7 @@ impl Processes {
     ghost use Rattle.pct_machine.specs.Places.{RiseWithin, families};
     ghost use Rattle.pct_machine.specs.Candidates.{candidate_on, IsSeat};
     ghost use Rattle.pct_machine.specs.ProcessSteps.{AllCanStep, some_if};
+    ghost use Rattle.pct_machine.specs.MachineSteps.{woken_in};
     ghost use Rattle.pct_machine.specs.ListChanges.{taken_among, list_moved, list_after_entry, process_changed, list_changed, list_with_child, ChildFits, ChangeFits};
 
     /// The processes before the first step, with 1 to 64 thread slots. `NoMemory` is returned if the tables of eight processes do not fit
@@ -98,17 +101,24 @@ impl Processes {
     /// Makes the step of an entry of a thread in its process, and writes the transition that it takes to `transition`. The result is
     /// false exactly if there is no process with the id of the entry that has not ended, no thread with the id of the entry holds its
     /// slot there, or the choice is not offered, and then the processes are as they were. The changes of the list of processes are left
-    /// to the caller.
-    pub fn step(&mut self, program: &Program, entry: &Entry, transition: &mut Transition) -> bool
+    /// to the caller. At most three records of threads are lent, and one for each thread that a broadcast wakes.
+    pub fn step<L: Ledger>(
+        &mut self,
+        program: &Program,
+        entry: &Entry,
+        transition: &mut Transition,
+        steps: &mut Steps<L>,
+    ) -> bool
         requires { AllCanStep program.now.config.slots self.old.processes self.old.made }
         ensures taken { taken_among program.now.script program.now.config self.old entry.now ≡ some_if result transition.new }
         ensures moved { self.new ≡ (if result then list_moved program.now.config.slots entry.now.pid entry.now.tid transition.new self.old else self.old) }
+        ensures count { steps.new ≤ steps.old + 3 + woken_in entry.now.pid (some_if result transition.new) self.old.processes }
     {
         let Some(index) = self.index_of(entry.pid) else {
             return false;
         };
         let around = surroundings(program, &self.relatives, self.made, entry.pid);
-        self.places[index].step(around, entry, transition)
+        self.places[index].step(around, entry, transition, steps)
     }
 
     /// The entry that a worker's numbers choose for the thread on a seat. `None` if the thread has no choice.
@@ -125,12 +135,13 @@ impl Processes {
     /// Makes the step of the entry that a worker's numbers choose for the thread on a seat, and writes the transition that it takes to
     /// `transition`. `None` if the thread has no choice, and then the processes are as they were. The changes of the list of processes are
     /// left to the caller.
-    pub fn advance(
+    pub fn advance<L: Ledger>(
         &mut self,
         program: &Program,
         seat: Seat,
         draw: Draw,
         transition: &mut Transition,
+        steps: &mut Steps<L>,
     ) -> Option<Entry>
         requires can { AllCanStep program.now.config.slots self.old.processes self.old.made }
         requires seat { IsSeat self.old.processes seat }
@@ -141,23 +152,33 @@ impl Processes {
     {
         let pid = self.places[seat.place].pid();
         let around = surroundings(program, &self.relatives, self.made, pid);
-        self.places[seat.place].advance(around, seat.slot, draw, transition)
+        self.places[seat.place].advance(around, seat.slot, draw, transition, steps)
     }
 
-    /// Makes a change of the list by the thread with an id of the process with an id, if there is such a change.
-    pub fn change(&mut self, pid: u32, tid: u32, change: Option<ProcessAction>)
+    /// Makes a change of the list by the thread with an id of the process with an id, if there is such a change. One record of a thread
+    /// is lent at most.
+    #[inline(always)]
+    pub fn change<L: Ledger>(
+        &mut self,
+        pid: u32,
+        tid: u32,
+        change: Option<ProcessAction>,
+        steps: &mut Steps<L>,
+    )
         requires { IfSome change (λ c. ChangeFits pid tid c self.old) }
-        ensures { self.new ≡ list_changed pid tid change self.old }
+        ensures changed { self.new ≡ list_changed pid tid change self.old }
+        ensures count { steps.new ≤ steps.old + 1 }
     {
         match change {
             None => {}
             Some(ProcessAction::End(status)) => self.keep(pid, ProcessAction::End(status)),
             Some(ProcessAction::Reap(child)) => self.keep(pid, ProcessAction::Reap(child)),
-            Some(ProcessAction::Make(child)) => self.fork(pid, tid, child),
+            Some(ProcessAction::Make(child)) => self.fork(pid, tid, child, steps),
         }
     }
 
     // Makes a change that makes no process. The processes that are kept stay in their order.
+    #[inline(never)]
     fn keep(&mut self, pid: u32, change: ProcessAction)
         ensures { self.new ≡ record self.old { processes = flat_map (process_changed pid change) self.old.processes } }
     {
@@ -167,14 +188,23 @@ impl Processes {
     }
 
     // Makes the child process with an id, which inherits the thread with this id.
-    fn fork(&mut self, pid: u32, tid: u32, child: u32)
+    #[inline(never)]
+    fn fork<L: Ledger>(&mut self, pid: u32, tid: u32, child: u32, steps: &mut Steps<L>)
         requires { ChildFits pid tid child self.old }
-        ensures { self.new ≡ list_with_child pid tid child self.old }
+        ensures child { self.new ≡ list_with_child pid tid child self.old }
+        ensures count { steps.new ≤ steps.old + 1 }
     {
         let Some(index) = self.index_of(pid) else {
             return;
         };
-        fork_place(self.places.as_mut_slice(), self.live, index, tid, child);
+        fork_place(
+            self.places.as_mut_slice(),
+            self.live,
+            index,
+            tid,
+            child,
+            steps,
+        );
         self.live += 1;
         self.made = child;
         let (processes, _) = self.places.as_slice().split_at(self.live);
@@ -240,14 +270,22 @@ fn keep_places(places: &mut Vec<Place>, live: usize, pid: u32, change: ProcessAc
 
 // Makes the child process with an id on the place after the first `live` ones: the thread with an id, of the process on a place before
 // it, forks.
-fn fork_place(places: &mut [Place], live: usize, index: usize, tid: u32, pid: u32)
+fn fork_place<L: Ledger>(
+    places: &mut [Place],
+    live: usize,
+    index: usize,
+    tid: u32,
+    pid: u32,
+    steps: &mut Steps<L>,
+)
     requires within { index < live }
     requires room { live < length places.old }
     requires thread { (p : SeenProcess) → slice_get places.old index ≡ Some p → HasThread tid p.slots }
-    ensures { (p : SeenProcess) → slice_get places.old index ≡ Some p → take (live + 1) places.new ≡ take live places.old ++ child_seen tid pid p ∷ [] }
+    ensures child { (p : SeenProcess) → slice_get places.old index ≡ Some p → take (live + 1) places.new ≡ take live places.old ++ child_seen tid pid p ∷ [] }
+    ensures count { steps.new ≤ steps.old + 1 }
 {
     let (processes, free) = places.split_at_mut(live);
-    free[0].inherit(&processes[index], tid, pid);
+    free[0].inherit(&processes[index], tid, pid, steps);
 }
 
 // Writes the ids and the ends of the processes anew.

@@ -1,6 +1,7 @@
 -- The first process before the first step is that of the initial state.
 use Rattle.pct_names.proofs.Names.{◌*◌, ◌+◌, ◌<◌, [], ap, arith, false, ForkHandlers, get_or-replicate, length, length-map}
 use Rattle.pct_names.proofs.Names.{length-replicate, List, Main, main_of, map, map-set, MAX_DECLARED, names_of, no_keys, no_values, None}
+use Rattle.pct_names.proofs.Names.{cases_lt, get_or_past, inl, inr, option_map, subst, true}
 use Rattle.pct_names.proofs.Names.{Option, refl, replicate, Script, SemDecl, slice_set, Some, suc, sym, zero, zero-mod, ℕ, ◌∙◌, ◌∷◌, ◌≡◌}
 use Rattle.pct_names.proofs.Names.{◌≤◌}
 use Rattle.pct_model.specs.declared.line_kind.SymbolKind.TheVariants as kind
@@ -8,13 +9,16 @@ use Rattle.pct_model.specs.declared.state.OnceState.{OnceState}
 use Rattle.pct_model.specs.declared.state.OnceState.TheVariants.{Fresh}
 use Rattle.pct_model.proofs.StaticFacts.{limits_kept}
 use Rattle.pct_threads.specs.Slots.{Held, Slot, unused, created, with_change, with_call_alone}
-use Rattle.pct_threads.specs.Tables.{next_id_at, on_held, with_created}
+use Rattle.pct_threads.specs.Tables.{slot_at, held_at, next_id_at, on_held, with_created}
 use Rattle.pct_threads.proofs.TableLemmas.{length-on_slot, on_slot-then}
 use Rattle.pct_keys.specs.Tables.{Table, new_table}
 use Rattle.pct_engine_laws.specs.Seen.{SeenSlot}
 use Rattle.pct_engine_laws.proofs.OpeningSeen.{first_on_slot, first_thread, first_slots, one_thread_on_first}
 use Rattle.pct_process.specs.ThreadViews.{threads_of, slot_view}
 use Rattle.pct_process.specs.ProcessViews.{with_row, slots_of, shared_of, first_data}
+use Rattle.pct_process.specs.declared.standings.Standing.TheVariants as standing
+use Rattle.pct_process.specs.Standings.{AreStandings, no_standings, with_standing}
+use Rattle.pct_process.proofs.StandingsKept.{StandsAs, changed_stands, standings_none, standings_kept-on_slot, standings_put-on_slot}
 
 -- a script declares few globals, mutexes, semaphores and once controls
 pub few_declared : (script : Script) → (length script.globals ≤ MAX_DECLARED) × (length script.mutexes ≤ MAX_DECLARED) × (length script.sems ≤ MAX_DECLARED) × (length script.onces ≤ MAX_DECLARED)
@@ -25,6 +29,13 @@ few_declared s =
 map-replicate : {A B : Type 0} (f : A → B) (n : ℕ) (x : A) → map f (replicate n x) ≡ replicate n (f x)
 map-replicate f zero x = refl
 map-replicate f (suc n) x = ap (λ ys. f x ∷ ys) (map-replicate f n x)
+
+-- a slot of a table on which no thread was created
+pub free_slot : (n k : ℕ) → slot_at (replicate n unused) k ≡ unused
+free_slot n k = elim (cases_lt k n) [
+  | inl inside ↦ get_or-replicate n k unused unused inside
+  | inr past ↦ get_or_past (replicate n unused) k unused (omega (arith, past, length-replicate n unused))
+]
 
 -- the table of the first thread
 abbrev pub first_table : ℕ → ℕ → List Slot
@@ -79,3 +90,17 @@ rows-first n func threads keys made none =
     ∙ sym (length-on_slot 0 (created (next_id_at (replicate n unused) 0) func 0 false) (replicate n unused))
     ∙ sym (length-on_slot 0 (with_change (with_call_alone func 0 Main)) (with_created 0 func 0 false (replicate n unused)))
     ∙ sym (ap length made)
+
+changed_alone : (func : ℕ) (here : Option Held) → StandsAs here (option_map (with_call_alone func 0 Main) here)
+changed_alone func here = changed_stands (with_call_alone func 0 Main) (λ h. refl) (λ h. refl) here
+
+-- how its threads stand: the first has not ended
+pub standings-first : (n func : ℕ) (threads : List Slot) → 0 < n → threads ≡ first_table n func → AreStandings (with_standing 0 standing.Other true no_standings) threads
+standings-first n func threads some made =
+    let empty : List Slot = replicate n unused in
+    let long : length empty ≡ n = length-replicate n unused in
+    let with_one : List Slot = with_created 0 func 0 false empty in
+    let created_stands : AreStandings (with_standing 0 standing.Other true no_standings) with_one =
+    standings_put-on_slot no_standings empty (standings_none empty (λ k small. ap (λ (s : Slot). s.here) (free_slot n k))) 0 (omega (arith, some, long)) (created (next_id_at empty 0) func 0 false) (omega arith) standing.Other true refl refl in
+    subst (λ (table : List Slot). AreStandings (with_standing 0 standing.Other true no_standings) table) (sym made)
+    (standings_kept-on_slot (with_standing 0 standing.Other true no_standings) with_one created_stands 0 (omega (arith, some, long, length-on_slot 0 (created (next_id_at empty 0) func 0 false) empty)) (with_change (with_call_alone func 0 Main)) (changed_alone func (held_at with_one 0)))

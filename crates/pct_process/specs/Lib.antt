@@ -1,3 +1,5 @@
 pub mod ThreadViews
+pub mod Standings
+pub mod StandingsWanted
 pub mod ProcessViews
 pub mod FamilyViews

@@ -1,21 +1,22 @@
 //! The data of one process: its threads, and what they share.
 
-ghost use Rattle.std.specs.Prelude.{◌≡◌, ◌<◌, length};
-ghost use Rattle.std.specs.List.{list_all};
+ghost use Rattle.std.specs.Prelude.{◌≡◌};
 ghost use Rattle.pct_model.specs.Actions.{in_child};
-ghost use Rattle.pct_threads.specs.Tables.{held_at};
-ghost use Rattle.pct_process.specs.ThreadViews.{has_no_other, record_inherited};
+ghost use Rattle.pct_process.specs.Standings.{standing_of};
+ghost use Rattle.pct_process.specs.ThreadViews.{record_inherited};
 
 use crate::exit_functions::ExitFunctions;
 use crate::fork_registrations::ForkRegistrations;
+use crate::standings::{Standing, Standings, standing_of};
 use crate::values::{Numbers, OnceControls, Values};
 use pct_io::NoMemory;
 use pct_keys::Keys;
 use pct_model::{ForkAt, FrameKind, OnceState, Phase, Reason, Script, Status, main_of};
 use pct_set::SlotSet;
-use pct_threads::{Thread, Threads};
+use pct_threads::{Steps, Thread, Threads};
 use std::alloc::Global;
 use std::marker::Model;
+use std::sync::ledger::Ledger;
 
 /// The data of a process, beside its ids, its parent and its end. In a contract it is its slots, each with the number of threads
 /// ever created on it and the thread that holds it, and the state that the threads share.
@@ -23,6 +24,8 @@ use std::marker::Model;
 pub struct ProcessState {
     /// The threads.
     pub threads: Threads,
+    /// How the threads stand.
+    pub standings: Standings,
     /// The keys of thread-specific data, and a row for each slot: the data of the thread that holds it.
     pub keys: Keys,
     /// The globals.
@@ -46,16 +49,17 @@ pub struct ProcessState {
 impl Model for ProcessState {
     ghost use Rattle.std.specs.Prelude.{◌≡◌, length};
     ghost use Rattle.pct_process.specs.ProcessViews.{slots_of, shared_of, ProcessData};
+    ghost use Rattle.pct_process.specs.Standings.{AreStandings};
 
     ghost Value = { ProcessData };
 
     ghost view = { λ p. record { slots = slots_of p.keys.rows p.threads; shared = shared_of p.globals p.owners p.counts p.onces p.keys.places p.fork_handlers p.exit_functions p.exit_value p.restricted } };
 
-    ghost invariant = { λ p. length p.keys.rows ≡ length p.threads };
+    ghost invariant = { λ p. (length p.keys.rows ≡ length p.threads) × AreStandings p.standings p.threads };
 }
 
 impl ProcessState {
-    ghost use Rattle.std.specs.Prelude.{◌≡◌, ◌≤◌, ℕ, true, length, option_map, is_some, Some, None, All, IfNone, IfOk, IfSome};
+    ghost use Rattle.std.specs.Prelude.{◌≡◌, ◌≤◌, ◌+◌, ℕ, true, length, option_map, is_some, Some, None, All, IfNone, IfOk, IfSome};
     ghost use Rattle.pct_model.specs.declared.limits.TheConstants.{MAX_SLOTS};
     ghost use Rattle.pct_set.specs.Slots.{slots_where};
     ghost use Rattle.pct_engine_laws.specs.Seen.{is_last_in};
@@ -73,8 +77,11 @@ impl ProcessState {
         let mut threads = Threads::new(alloc, slots)?;
         threads.create(0, main, 0, false);
         threads.call_alone(0, main, 0, FrameKind::Main);
+        let mut standings = Standings::new();
+        standings.put(0, Standing::Other, true);
         Ok(ProcessState {
             threads,
+            standings,
             keys: Keys::new(alloc, slots)?,
             globals: Values::new(script.globals.as_slice().len(), 0),
             owners: Values::new(script.mutexes.as_slice().len(), 0),
@@ -92,6 +99,7 @@ impl ProcessState {
     pub fn reserve(alloc: Global) -> Result<ProcessState, NoMemory> {
         Ok(ProcessState {
             threads: Threads::new(alloc, 1)?,
+            standings: Standings::new(),
             keys: Keys::new(alloc, 1)?,
             globals: Values::new(0, 0),
             owners: Values::new(0, 0),
@@ -106,12 +114,17 @@ impl ProcessState {
 
     /// Makes this the data of the child that a fork by the thread on a slot of the parent makes. The child has this thread alone, and
     /// what the threads of the parent share. No memory is taken.
-    pub fn inherit(&mut self, parent: &ProcessState, slot: u32)
+    pub fn inherit<L: Ledger>(&mut self, parent: &ProcessState, slot: u32, steps: &mut Steps<L>)
         requires { is_some (thread_on_slot parent.now.slots slot) ≡ true }
-        ensures { (tid : ℕ) → HoldsOneSlot tid slot parent.now.slots → self.new ≡ data_inherited tid parent.now }
+        ensures data { (tid : ℕ) → HoldsOneSlot tid slot parent.now.slots → self.new ≡ data_inherited tid parent.now }
+        ensures count { steps.new ≡ steps.old + 1 }
     {
+        // A table has at most 64 slots.
+        let _count = parent.threads.slot_count();
         self.threads.clone_one_from(&parent.threads, slot);
-        become_replica(self.threads.write(slot));
+        let standing = become_replica(self.threads.write(slot, steps));
+        self.standings = Standings::new();
+        self.standings.put(slot, standing, true);
         self.keys.copy_from(&parent.keys, slot);
         self.globals.copy_from(&parent.globals);
         self.owners.copy_from(&parent.owners);
@@ -160,37 +173,14 @@ impl ProcessState {
     pub fn is_last(&self, tid: u32) -> bool
         ensures { result ≡ is_last_in tid self.now.slots }
     {
-        is_last(&self.threads, tid)
+        self.standings.is_last(&self.threads, tid)
     }
 }
 
-/// Whether each thread of a table but the one with an id has ended.
-pub fn is_last(threads: &Threads, tid: u32) -> bool
-    ensures { result ≡ list_all (λ s. has_no_other tid s.here) threads.now }
-{
-    for slot in 0..threads.slot_count() {
-        if !has_no_other(threads, slot, tid) {
-            return false;
-        }
-    }
-    true
-}
-
-// Whether the thread on a slot has ended or has the id. A free slot has no thread.
-fn has_no_other(threads: &Threads, slot: u32, tid: u32) -> bool
-    requires { slot < length threads.now }
-    ensures { result ≡ has_no_other tid (held_at threads.now slot) }
-{
-    if threads.is_occupied(slot) {
-        threads.read(slot).ended || threads.place(slot).id == tid
-    } else {
-        true
-    }
-}
-
-// Makes the record of a thread that is in fork that of its replica in the child.
-fn become_replica(thread: &mut Thread)
-    ensures { thread.new ≡ record_inherited thread.old }
+// Makes the record of a thread that is in fork that of its replica in the child. Returns how the replica stands.
+fn become_replica(thread: &mut Thread) -> Standing
+    ensures standing { result ≡ standing_of thread.new.status }
+    ensures replica { thread.new ≡ record_inherited thread.old }
 {
     thread.status = in_child(thread.status);
     thread.cancel.pending = false;
@@ -198,6 +188,7 @@ fn become_replica(thread: &mut Thread)
     thread.pass = 0;
     thread.kept = None;
     thread.ended = false;
+    standing_of(thread.status)
 }
 
 // The status of the replica of a thread with this status, which is in fork.

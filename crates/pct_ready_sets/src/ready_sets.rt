@@ -100,8 +100,20 @@ impl ReadySets {
         requires { slot < 64 }
         ensures { self.new ≡ record { conditions = slice_set self.old.conditions slot condition; stale = without_slot slot self.old.stale } }
     {
-        let (from, to) = (group_of(self.condition(slot)), group_of(condition));
         // Most often a thread has a choice now, and had one.
+        if are_now(self.condition(slot), condition) {
+            self.stale.remove(slot);
+        } else {
+            self.replace(slot, condition);
+        }
+    }
+
+    // The same, whatever the condition was.
+    fn replace(&mut self, slot: u32, condition: ReadyWhen)
+        requires { slot < 64 }
+        ensures { self.new ≡ record { conditions = slice_set self.old.conditions slot condition; stale = without_slot slot self.old.stale } }
+    {
+        let (from, to) = (group_of(self.condition(slot)), group_of(condition));
         if from != to {
             take_out(&mut self.groups, from, slot);
             put_in(&mut self.groups, to, slot);
@@ -146,6 +158,16 @@ fn first_groups(alloc: Global) -> Result<Vec<SlotSet>, NoMemory>
         groups.push(SlotSet::new())?;
     }
     Ok(groups)
+}
+
+// Whether both conditions hold in each state.
+fn are_now(first: ReadyWhen, second: ReadyWhen) -> bool
+    ensures { result ≡ true → (first ≡ ready.Now) × (second ≡ ready.Now) }
+{
+    match (first, second) {
+        (ReadyWhen::Now, ReadyWhen::Now) => true,
+        _ => false,
+    }
 }
 
 // The group of a condition.

@@ -7,7 +7,10 @@ ghost use Rattle.pct_ready_sets.specs.ReadyConditions.{condition_of_slot, Follow
 
 use crate::ready_sets::ReadySets;
 use pct_process::ProcessState;
+use pct_threads::Steps;
 use pct_transitions::{Program, ReadyWhen, ready_when};
+use std::marker::Brand;
+use std::sync::ledger::{Blank, Ledger};
 
 /// Looks again at each slot that is stale.
 pub(crate) fn refresh(program: &Program, process: &ProcessState, sets: &mut ReadySets)
@@ -31,17 +34,26 @@ fn refresh_slot(program: &Program, process: &ProcessState, sets: &mut ReadySets,
 {
     // There are 64 conditions.
     let _stale = sets.stale();
-    let condition = condition_of(program, process, slot);
+    let condition = condition_of::<Brand>(program, process, slot, Blank::new(1));
     sets.put(slot, condition);
 }
 
-// The condition under which the thread on a slot has a choice; without a thread none ever has.
-fn condition_of(program: &Program, process: &ProcessState, slot: u32) -> ReadyWhen
-    requires { slot < 64 }
+// The condition under which the thread on a slot has a choice; without a thread none ever has. The records that it reads are counted from
+// 0 on.
+fn condition_of<L: Ledger>(
+    program: &Program,
+    process: &ProcessState,
+    slot: u32,
+    blank: Blank,
+) -> ReadyWhen
+    requires slot { slot < 64 }
+    requires name { blank.name ≡ L.name }
+    requires parts { blank.parts ≡ L.parts }
+    requires some { 0 < blank.parts }
     ensures { result ≡ condition_of_slot program.now.script (has_timeouts program.now.config.format) (with_data process.now) slot }
 {
     if process.occupied().contains(slot) {
-        ready_when(program, process, slot)
+        ready_when(program, process, slot, &mut Steps::<L>::new(blank))
     } else {
         ReadyWhen::Never
     }

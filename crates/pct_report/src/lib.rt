@@ -3,6 +3,7 @@
 #![tactic(auto)]
 
 mod event_fields;
+mod event_lines;
 mod fields;
 pub mod names;
 mod report;

@@ -19,11 +19,18 @@ pub fn word(keyword: Keyword) -> Field<'static>
     Field::Text(keyword.text())
 }
 
-/// The first word if the flag is set, else the second.
+/// The first word if the flag is set, else the second, as a field.
 pub(crate) fn word_if(flag: bool, first: Keyword, second: Keyword) -> Field<'static>
     ensures { field_text result ≡ either first second flag }
 {
-    if flag { word(first) } else { word(second) }
+    Field::Text(text_if(flag, first, second))
+}
+
+/// The first word if the flag is set, else the second.
+pub(crate) fn text_if(flag: bool, first: Keyword, second: Keyword) -> &'static [u8]
+    ensures { result.now ≡ either first second flag }
+{
+    if flag { first.text() } else { second.text() }
 }
 
 /// The name of a call.
@@ -57,27 +64,48 @@ pub fn point(index: u32) -> Field<'static>
     Field::Text(point_name(index))
 }
 
-/// The name of a function.
-#[tactic(auto, unfolding(pct_model::specs::Names::name_at))]
+/// The name of a function, as a field.
 pub fn func(script: &Script, index: u32) -> Field<'_>
     ensures { field_text result ≡ func_name script.now index }
 {
+    Field::Text(func_name(script, index))
+}
+
+/// The name of a function.
+#[tactic(auto, unfolding(pct_model::specs::Names::name_at))]
+pub(crate) fn func_name(script: &Script, index: u32) -> &[u8]
+    ensures { result.now ≡ func_name script.now index }
+{
     match script.funcs.as_slice().get(index as usize) {
-        None => Field::Text(&[]),
-        Some(func) => Field::Text(func.name.as_bytes()),
+        None => &[],
+        Some(func) => func.name.as_bytes(),
     }
 }
 
-/// The name of a mutex.
+/// The name of a mutex, as a field.
 pub fn mutex(script: &Script, index: u32) -> Field<'_>
     ensures { field_text result ≡ mutex_name script.now index }
+{
+    Field::Text(mutex_name(script, index))
+}
+
+/// The name of a mutex.
+pub(crate) fn mutex_name(script: &Script, index: u32) -> &[u8]
+    ensures { result.now ≡ mutex_name script.now index }
 {
     name_at(script.mutexes.as_slice(), index)
 }
 
-/// The name of a condition variable.
+/// The name of a condition variable, as a field.
 pub fn cond(script: &Script, index: u32) -> Field<'_>
     ensures { field_text result ≡ cond_name script.now index }
+{
+    Field::Text(cond_name(script, index))
+}
+
+/// The name of a condition variable.
+pub(crate) fn cond_name(script: &Script, index: u32) -> &[u8]
+    ensures { result.now ≡ cond_name script.now index }
 {
     name_at(script.conds.as_slice(), index)
 }
@@ -97,16 +125,16 @@ pub fn sem(script: &Script, index: u32) -> Field<'_>
 pub fn once(script: &Script, index: u32) -> Field<'_>
     ensures { field_text result ≡ once_name script.now index }
 {
-    name_at(script.onces.as_slice(), index)
+    Field::Text(name_at(script.onces.as_slice(), index))
 }
 
 // The name at an index.
 #[tactic(auto, unfolding(pct_model::specs::Names::name_at))]
-fn name_at(names: &[Name], index: u32) -> Field<'_>
-    ensures { field_text result ≡ name_at names.now index }
+fn name_at(names: &[Name], index: u32) -> &[u8]
+    ensures { result.now ≡ name_at names.now index }
 {
     match names.get(index as usize) {
-        None => Field::Text(&[]),
-        Some(name) => Field::Text(name.as_bytes()),
+        None => &[],
+        Some(name) => name.as_bytes(),
     }
 }

@@ -11,10 +11,11 @@ ghost use Rattle.pct_model.specs.Run.{Run};
 ghost use Rattle.pct_engine.specs.EngineStates.{IsRunOf};
 
 use crate::event_fields::fields_of_event;
-use crate::fields::{prepend_words, write_words};
+use crate::event_lines::prepend_event;
+use crate::fields::write_words;
 use pct_engine::Engine;
-use pct_io::{BufferedSink, Failed, Field, Sink, prepend, prepend_number, write_all, write_line};
-use pct_model::{Config, Entry, Event, Keyword, Script, Verdict, What};
+use pct_io::{BufferedSink, Failed, Field, Sink, write_all, write_line};
+use pct_model::{Config, Entry, Event, Keyword, Script, Verdict};
 use pct_schedule::write_schedule;
 
 /// Writes the report of an engine's run: a title, the events in order, the verdict, and the schedule. The run may be
@@ -95,28 +96,33 @@ fn write_title<K: Sink>(sink: &mut K, config: Config) -> Result<(), Failed>
 }
 
 // The size in bytes of the buffer in which lines are gathered, and how many lines at most are gathered in it.
-const CAPACITY: usize = 1024;
+const CAPACITY: usize = 4096;
 
-const MOST_LINES: usize = 16;
+const MOST_LINES: usize = 64;
 
 fn write_events<K: Sink>(sink: &mut K, script: &Script, events: &[Event]) -> Result<(), Failed>
     ensures { Writes K.written K.errors K.inners sink.old sink.new (flat_map (λ e. line_text (event_line script.now e)) events.now) result }
 {
+    let mut buffer = [0; CAPACITY];
     let mut rest = events;
     while !rest.is_empty() {
         let (few, after) = rest.split_at(rest.len().min(MOST_LINES));
-        write_together(sink, script, few)?;
+        write_together(sink, script, few, &mut buffer)?;
         rest = after;
     }
     Ok(())
 }
 
 // Gathers the lines of the events and writes them at once. Lines that do not fit together are written one by one.
-fn write_together<K: Sink>(sink: &mut K, script: &Script, events: &[Event]) -> Result<(), Failed>
+fn write_together<K: Sink>(
+    sink: &mut K,
+    script: &Script,
+    events: &[Event],
+    buffer: &mut [u8],
+) -> Result<(), Failed>
     ensures { Writes K.written K.errors K.inners sink.old sink.new (flat_map (λ e. line_text (event_line script.now e)) events.now) result }
 {
-    let mut buffer = [0; CAPACITY];
-    match prepend_events(script, events, &mut buffer, CAPACITY) {
+    match prepend_events(script, events, buffer, buffer.len()) {
         Some(start) => write_all(sink, &buffer[start..]),
         None => write_each(sink, script, events),
     }
@@ -129,7 +135,7 @@ fn prepend_events(script: &Script, events: &[Event], buffer: &mut [u8], end: usi
 {
     let mut start = end;
     for position in (0..events.len()).rev() {
-        start = prepend_event(script, events[position], buffer, start)?;
+        start = prepend_event(script, &events[position], buffer, start)?;
     }
     Some(start)
 }
@@ -179,36 +185,6 @@ pub fn write_verdict_line<K: Sink>(sink: &mut K, verdict: Verdict) -> Result<(),
             ],
         ),
     }
-}
-
-// Writes the line of an event, as `prepend_line` does. That of an `emit`, a frequent event, needs no list of fields.
-#[tactic(auto, unfolding(pct_model::specs::Report::event_line, pct_model::specs::Report::thread_text, pct_model::specs::EventTexts::event_words))]
-fn prepend_event(script: &Script, event: Event, buffer: &mut [u8], end: usize) -> Option<usize>
-    requires { end ≤ length buffer.old }
-    ensures { Prepends buffer.old buffer.new end (line_text (event_line script.now event)) result }
-{
-    match event.what {
-        What::Emit(value) => prepend_emit(event.pid, event.tid, value, buffer, end),
-        _ => {
-            let thread = Field::Dotted(event.pid, event.tid);
-            prepend_words(thread, fields_of_event(script, event.what), buffer, end)
-        }
-    }
-}
-
-// Writes the line of an `emit` of a value.
-#[inline(always)]
-#[tactic(auto, unfolding(pct_model::specs::Keywords::keyword_text))]
-fn prepend_emit(pid: u32, tid: u32, value: u32, buffer: &mut [u8], end: usize) -> Option<usize>
-    requires { end ≤ length buffer.old }
-    ensures { Prepends buffer.old buffer.new end (line_text ((decimal pid ++ 46 ∷ decimal tid) ∷ keyword_text keyword.Emit ∷ decimal value ∷ [])) result }
-{
-    let line_end = prepend(b"\n", buffer, end)?;
-    let number = prepend_number(value as u64, buffer, line_end)?;
-    let word = prepend(b" emit ", buffer, number)?;
-    let thread = prepend_number(tid as u64, buffer, word)?;
-    let dot = prepend(b".", buffer, thread)?;
-    prepend_number(pid as u64, buffer, dot)
 }
 
 // The line of one event.

@@ -4,6 +4,8 @@ pub mod LineByLine
 pub mod ByEntries
 pub mod ByHeader
 pub mod LineLoops
+pub mod GoLines
+pub mod FirstEntries
 pub mod Markers
 pub mod Prefixes
 pub mod ScheduleTexts

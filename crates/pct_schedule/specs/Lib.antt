@@ -1,4 +1,5 @@
 pub mod Ends
+pub mod FirstEntry
 pub mod Gives
 pub mod Memory
 pub mod Prefix

@@ -1,11 +1,12 @@
 //! The lines of a schedule: its header, its entries and its last line.
 
-ghost use Rattle.std.specs.Prelude.{◌≡◌, bytes_eq};
+ghost use Rattle.std.specs.Prelude.{◌≡◌, ◌∷◌, bytes_eq, IfSome};
 ghost use Rattle.pct_model.specs.declared.keyword.Keyword.TheVariants as keyword;
 ghost use Rattle.pct_model.specs.Keywords.{keyword_text};
 ghost use Rattle.pct_model.specs.Lines.{words_of, number_of};
 ghost use Rattle.pct_model.specs.Run.{is_config};
 ghost use Rattle.pct_model.specs.Schedule.{begins, format_with, config_of, header_of, numbered_choice, choice_of, entry_of, entry_in, is_number, is_end};
+ghost use Rattle.pct_schedule.specs.FirstEntry.{IsFirstEntry};
 
 use pct_model::{
     Alt, Config, Entry, Format, Keyword, MAX_BUDGET, MAX_PASSES, MAX_SLOTS, MAX_WORKER, MIN_PASSES,
@@ -141,6 +142,40 @@ pub fn entry_of(line: &[u8]) -> Option<Entry>
         })
     } else {
         None
+    }
+}
+
+/// The entry in the first line of a text and the text after that line, where the entry has the choice `go`, as nearly
+/// every entry has, and is written as `write_schedule` writes it. It is `None` of every other text.
+#[inline(always)]
+pub fn split_go(text: &[u8]) -> Option<(Entry, &[u8])>
+    ensures { IfSome result (λ parts. IsFirstEntry text.now parts.0 parts.1.now) }
+{
+    let (worker, words) = split_number(text)?;
+    let (pid, words) = split_number(words)?;
+    let (tid, words) = split_number(words)?;
+    let after = after_go(words)?;
+    if worker <= MAX_WORKER {
+        let entry = Entry {
+            worker,
+            pid,
+            tid,
+            alt: Alt::Go,
+        };
+        Some((entry, after))
+    } else {
+        None
+    }
+}
+
+// The text after the word `go` and an LF.
+#[inline(always)]
+fn after_go(text: &[u8]) -> Option<&[u8]>
+    ensures { IfSome result (λ after. text.now ≡ 103 ∷ 111 ∷ 10 ∷ after.now) }
+{
+    match text {
+        [b'g', b'o', b'\n', after @ ..] => Some(after),
+        _ => None,
     }
 }
 

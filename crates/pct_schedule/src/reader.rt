@@ -14,7 +14,7 @@ ghost use Rattle.pct_schedule.specs.Prefix.{prefix_of};
 ghost use Rattle.pct_schedule.specs.Schedules.{IsSchedule};
 
 use crate::fault::ScheduleFault;
-use crate::line::{begins_with, entry_in, header_of, is_end};
+use crate::line::{begins_with, entry_in, header_of, is_end, split_go};
 use pct_model::{Config, Entry, Format, Keyword, ScheduleWhy, Sequence};
 use pct_text::{first_line, strip_cr};
 use std::alloc::Global;
@@ -98,6 +98,7 @@ fn end_at(number: u32, count: usize, line: &[u8], after: &[u8]) -> Result<(), Sc
 }
 
 // The entries down to the line `end N` or, where it is optional, to the end of the text.
+#[inline(never)]
 fn read_entries(
     alloc: Global,
     config: Config,
@@ -112,7 +113,16 @@ fn read_entries(
     let mut entries = Vec::new(alloc);
     let mut number = lines.first;
     let mut rest = lines.text;
-    while let Some((raw, after)) = first_line(rest) {
+    while !rest.is_empty() {
+        if let Some((entry, after)) = split_go(rest)
+            && entries.len() < config.budget as usize
+        {
+            entries.push(entry)?;
+            number += 1;
+            rest = after;
+            continue;
+        }
+        let (raw, after) = first_line(rest).unwrap();
         let line = strip_cr(raw);
         if begins_with(line, Keyword::End) {
             end_at(number, entries.len(), line, after)?;

@@ -53,28 +53,28 @@ fn write_list<K: Sink>(sink: &mut K, entries: &[Entry]) -> Result<(), Failed>
 }
 
 // The size in bytes of the buffer in which lines are gathered, and how many lines at most are gathered in it.
-const CAPACITY: usize = 1024;
+const CAPACITY: usize = 4096;
 
-const MOST_LINES: usize = 16;
+const MOST_LINES: usize = 64;
 
 fn write_entries<K: Sink>(sink: &mut K, entries: &[Entry]) -> Result<(), Failed>
     ensures { Writes K.written K.errors K.inners sink.old sink.new (flat_map (λ e. line_text (entry_line e)) entries.now) result }
 {
+    let mut buffer = [0; CAPACITY];
     let mut rest = entries;
     while !rest.is_empty() {
         let (few, after) = rest.split_at(rest.len().min(MOST_LINES));
-        write_together(sink, few)?;
+        write_together(sink, few, &mut buffer)?;
         rest = after;
     }
     Ok(())
 }
 
 // Gathers the lines of the entries and writes them at once. Lines that do not fit together are written one by one.
-fn write_together<K: Sink>(sink: &mut K, entries: &[Entry]) -> Result<(), Failed>
+fn write_together<K: Sink>(sink: &mut K, entries: &[Entry], buffer: &mut [u8]) -> Result<(), Failed>
     ensures { Writes K.written K.errors K.inners sink.old sink.new (flat_map (λ e. line_text (entry_line e)) entries.now) result }
 {
-    let mut buffer = [0; CAPACITY];
-    match prepend_entries(entries, &mut buffer, CAPACITY) {
+    match prepend_entries(entries, buffer, buffer.len()) {
         Some(start) => write_all(sink, &buffer[start..]),
         None => write_each(sink, entries),
     }
@@ -121,7 +121,7 @@ fn prepend_entry(entry: Entry, buffer: &mut [u8], end: usize) -> Option<usize>
     ensures { Prepends buffer.old buffer.new end (line_text (entry_line entry)) result }
 {
     match entry.alt {
-        Alt::Go => prepend_go(entry.worker, entry.pid, entry.tid, buffer, end),
+        Alt::Go => prepend_go(entry, buffer, end),
         _ => {
             let (fields, count) = fields_of(entry);
             prepend_line(&fields[..count], buffer, end)
@@ -132,14 +132,31 @@ fn prepend_entry(entry: Entry, buffer: &mut [u8], end: usize) -> Option<usize>
 // Writes the line of an entry with the choice `go`.
 #[inline(always)]
 #[tactic(auto, unfolding(pct_model::specs::Keywords::keyword_text))]
-fn prepend_go(worker: u32, pid: u32, tid: u32, buffer: &mut [u8], end: usize) -> Option<usize>
+fn prepend_go(entry: Entry, buffer: &mut [u8], end: usize) -> Option<usize>
     requires { end ≤ length buffer.old }
-    ensures { Prepends buffer.old buffer.new end (line_text (decimal worker ∷ decimal pid ∷ decimal tid ∷ keyword_text keyword.Go ∷ [])) result }
+    ensures { Prepends buffer.old buffer.new end (line_text (decimal entry.worker ∷ decimal entry.pid ∷ decimal entry.tid ∷ keyword_text keyword.Go ∷ [])) result }
 {
+    if entry.worker < 10 && entry.pid < 10 && entry.tid < 10 {
+        return prepend(
+            &[
+                b'0' + entry.worker as u8,
+                b' ',
+                b'0' + entry.pid as u8,
+                b' ',
+                b'0' + entry.tid as u8,
+                b' ',
+                b'g',
+                b'o',
+                b'\n',
+            ],
+            buffer,
+            end,
+        );
+    }
     let choice = prepend(b" go\n", buffer, end)?;
-    let thread = prepend_number(tid as u64, buffer, choice)?;
-    let process = prepend_before_space(pid, buffer, thread)?;
-    prepend_before_space(worker, buffer, process)
+    let thread = prepend_number(entry.tid as u64, buffer, choice)?;
+    let process = prepend_before_space(entry.pid, buffer, thread)?;
+    prepend_before_space(entry.worker, buffer, process)
 }
 
 // Writes a number and a space, as `prepend` writes a text.

@@ -1,3 +1,4 @@
 pub mod SlotLemmas
 pub mod SlotScans
 mod BitLemmas
+mod KeyedSlots

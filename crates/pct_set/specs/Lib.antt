@@ -1,3 +1,4 @@
 pub mod Slots
 pub mod Layout
 pub mod Inverse
+pub mod Keyed

@@ -113,6 +113,10 @@ after_end value held = if held.detached then None else Some (record held { threa
 abbrev pub after_detach : Held → Option Held
 after_detach held = if is_ended_status held.thread.status then None else Some (record held { detached = true })
 
+-- a thread that has ended and is detached gives back its slot (XSH pthread_detach)
+abbrev pub unless_reclaimed : Held → Option Held
+unless_reclaimed held = if is_ended_status held.thread.status && held.detached then None else Some held
+
 -- a new thread, with one frame of its start routine (XSH pthread_create)
 abbrev pub new_held : (id func arg : ℕ) → Bool → Held
 new_held id func arg detached = record { id = id; detached = detached; frames = new_frame func arg Start ∷ []; thread = new_record }

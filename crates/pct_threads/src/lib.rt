@@ -5,8 +5,10 @@
 mod frame_words;
 mod record;
 mod row;
+mod steps;
 mod threads;
 
 pub use record::{Place, Thread};
 pub use row::MAX_DEPTH;
+pub use steps::Steps;
 pub use threads::{Threads, slot_of};

@@ -40,7 +40,7 @@ impl Row {
     ghost use Rattle.std.specs.Borrow.{sem};
     ghost use Rattle.pct_threads.specs.declared.row.TheConstants.{MAX_DEPTH};
     ghost use Rattle.pct_threads.specs.FrameWords.{frame_word_of};
-    ghost use Rattle.pct_threads.specs.Slots.{unused, is_occupied, has_id, frames_of, place_of, frame_at, with_call, with_call_alone, with_pc, with_local, without_frame, without_frames, with_frame_word, after_end, after_detach, after_change, with_change, freed, created};
+    ghost use Rattle.pct_threads.specs.Slots.{unused, is_occupied, has_id, frames_of, place_of, frame_at, with_call, with_call_alone, with_pc, with_local, without_frame, without_frames, with_frame_word, after_end, after_detach, unless_reclaimed, after_change, with_change, freed, created};
     ghost use Rattle.pct_threads.specs.Lends.{LendsRecord};
 
     /// The slot on which no thread was created.
@@ -137,6 +137,13 @@ impl Row {
     {
         self.detached = true;
         self.occupied &= !is_ended(self.thread.status);
+    }
+
+    /// A thread that has ended and is detached gives back the slot.
+    pub(crate) fn settle(&mut self)
+        ensures { self.new ≡ after_change unless_reclaimed self.old }
+    {
+        self.occupied &= !(is_ended(self.thread.status) && self.detached);
     }
 
     /// The slot is given back.

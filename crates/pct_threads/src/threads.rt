@@ -8,12 +8,13 @@ ghost use Rattle.pct_set.specs.Slots.{with_slot, without_slot};
 
 use crate::frame_words::kind_of;
 use crate::row::Row;
-use crate::{Place, Thread};
+use crate::{Place, Steps, Thread};
 use pct_io::NoMemory;
 use pct_model::{Frame, FrameKind, MAX_SLOTS};
 use pct_set::SlotSet;
 use std::alloc::Global;
 use std::marker::Model;
+use std::sync::ledger::Ledger;
 
 /// The table of the threads of one process. A slot is occupied from the call of `create` on it until the call that gives it
 /// back. In a contract it is the list of the slots: each has the number of threads ever created on it, and the thread that
@@ -45,14 +46,14 @@ impl Model for Threads {
 }
 
 impl Threads {
-    ghost use Rattle.std.specs.Prelude.{◌≡◌, ◌<◌, ◌≤◌, ◌^◌, ◌-◌, true, length, map, position, replicate, reverse, slice_get, Some, IfOk, IfSome, option_map};
+    ghost use Rattle.std.specs.Prelude.{◌≡◌, ◌<◌, ◌≤◌, ◌+◌, ◌^◌, ◌-◌, true, length, map, position, replicate, reverse, slice_get, Some, IfOk, IfSome, option_map};
     ghost use Rattle.std.specs.Borrow.{sem};
     ghost use Rattle.pct_model.specs.declared.limits.TheConstants.{MAX_SLOTS};
     ghost use Rattle.pct_model.specs.ThreadSlots.{slot_of};
     ghost use Rattle.pct_set.specs.Slots.{slots_where};
     ghost use Rattle.pct_threads.specs.declared.row.TheConstants.{MAX_DEPTH};
     ghost use Rattle.pct_threads.specs.FrameWords.{frame_word_of};
-    ghost use Rattle.pct_threads.specs.Slots.{unused, has_id, frame_at, with_call, with_frame, with_call_alone, with_pc, with_local, without_frame, without_frames, with_frame_word, freed};
+    ghost use Rattle.pct_threads.specs.Slots.{unused, has_id, frame_at, with_call, with_frame, with_call_alone, with_pc, with_local, without_frame, without_frames, with_frame_word, unless_reclaimed, after_change, freed};
     ghost use Rattle.pct_threads.specs.Tables.{slot_at, slot_named, is_occupied_at, is_free_at, place_at, thread_at, frames_at, is_reclaimable_at, next_id_at, on_slot, on_held, with_created, with_end, with_detach, replica_of};
     ghost use Rattle.pct_threads.specs.Lends.{LendsThread};
 
@@ -186,20 +187,24 @@ impl Threads {
         id
     }
 
-    /// The record of the thread.
-    pub fn read(&self, slot: u32) -> &Thread
+    /// The record of the thread. It is counted.
+    pub fn read<L: Ledger>(&self, slot: u32, steps: &mut Steps<L>) -> &Thread
         requires { is_occupied_at self.now slot ≡ true }
-        ensures { thread_at self.now slot ≡ Some result.now }
+        ensures value { thread_at self.now slot ≡ Some result.now }
+        ensures count { steps.new ≡ steps.old + 1 }
     {
+        steps.tick();
         self.row(slot).thread()
     }
 
-    /// The record of the thread, for changes.
-    pub fn write(&mut self, slot: u32) -> &mut Thread
+    /// The record of the thread, for changes. It is counted.
+    pub fn write<L: Ledger>(&mut self, slot: u32, steps: &mut Steps<L>) -> &mut Thread
         requires { is_occupied_at self.old slot ≡ true }
         ensures* lends { sem 𝓛 (LendsThread self.entry slot result) }
         ensures value { thread_at self.old slot ≡ Some result.now }
+        ensures count { steps.new ≡ steps.old + 1 }
     {
+        steps.tick();
         self.rows[slot as usize].thread_mut()
     }
 
@@ -210,6 +215,16 @@ impl Threads {
     {
         let row = &mut self.rows[slot as usize];
         row.end(value);
+        retain_if(&mut self.occupied, slot, row.is_occupied());
+    }
+
+    /// Gives back the slot of a thread that has ended and is detached. Nothing changes if the thread is another one.
+    pub fn settle(&mut self, slot: u32)
+        requires { is_occupied_at self.old slot ≡ true }
+        ensures { self.new ≡ on_slot slot (after_change unless_reclaimed) self.old }
+    {
+        let row = &mut self.rows[slot as usize];
+        row.settle();
         retain_if(&mut self.occupied, slot, row.is_occupied());
     }
 

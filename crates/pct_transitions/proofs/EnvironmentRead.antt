@@ -1,25 +1,27 @@
 -- What is read of the table of threads is what a thread sees of the others.
 use Rattle.pct_names.proofs.Names.{◌*◌, ◌+◌, ◌++◌, ◌<◌, [], All, ap, arith, Bool, cases_lt, cond, drop, drop_all, drop_more, Environment}
 use Rattle.pct_names.proofs.Names.{exit_value_of, exit_value_with, false, false≢true, Family, filter, filter_passes, inl, inr, is_joining}
-use Rattle.pct_names.proofs.Names.{is_none, is_some, KeyValues, length, List, list_all, list_any, list_any-append, list_any_at, map, None}
+use Rattle.pct_names.proofs.Names.{is_none, is_some, KeyValues, length, List, list_all, list_any, list_any-append, map, None}
 use Rattle.pct_names.proofs.Names.{none-some, not, Option, option_and_then, option_map, option_map_or, range_with_len, refl, same_Some}
-use Rattle.pct_names.proofs.Names.{slice_get-get_or, slice_get_past, Some, suc, sym, take, take_all, Thread, true, unwrap_or, zero, ◌||◌, ℕ}
+use Rattle.pct_names.proofs.Names.{slice_get-get_or, slice_get_past, Some, suc, sym, Thread, true, unwrap_or, zero, ◌||◌, ℕ}
 use Rattle.pct_names.proofs.Names.{◌∙◌, ◌∷◌, ◌≡◌, ◌≤◌}
 use Rattle.std.proofs.Math.Bool.{or-false}
 use Rattle.pct_set.specs.Slots.{slots_where}
 use Rattle.pct_threads.specs.declared.record.Place.{Place}
-use Rattle.pct_threads.specs.declared.record.Thread.{Thread as Kept}
 use Rattle.pct_threads.specs.Slots.{Held, Slot, unused, is_occupied, place_of}
-use Rattle.pct_threads.specs.Tables.{slot_at, slot_named, held_at, place_at, thread_at, is_free_at, next_id_at}
+use Rattle.pct_threads.specs.Tables.{slot_at, slot_named, held_at, place_at, is_free_at, next_id_at}
 use Rattle.pct_threads.proofs.TableLemmas.{within-free}
 use Rattle.pct_keys.specs.Tables.{Table, row_at}
 use Rattle.pct_engine_laws.specs.Seen.{SeenSlot, threads_on}
+use Rattle.pct_engine_laws.proofs.ListFacts.{any_agree}
 use Rattle.pct_engine_laws.specs.SeenSteps.{is_empty, new_id_on, new_ids_from, environment_in}
 use Rattle.pct_process.specs.ThreadViews.{thread_of, threads_of, slot_view, with_specific, has_no_other}
 use Rattle.pct_process.specs.ProcessViews.{slots_of, thread_on_slot, with_rows}
+use Rattle.pct_process.specs.Standings.{AreStandings, StandingsValue, joins, standing_at, standing_of, standing_on}
 use Rattle.pct_process.proofs.ViewedSlots.{own, length-slots_of, thread_on_slot-is, thread_with-is}
 use Rattle.pct_process.proofs.LastThread.{last_read}
-use Rattle.pct_transitions.specs.OtherThreads.{any_on}
+use Rattle.pct_transitions.specs.OtherThreads.{any_on, ended_value}
+use Rattle.pct_transitions.proofs.StandingsRead.{ended_by, joins_by, any_stands}
 
 -- ---- scans
 
@@ -37,14 +39,6 @@ module _ (test : Thread → Bool) (same : (own : KeyValues) (t : Thread) → tes
       ap (λ (b : Bool). any_on test s.here || b) (any_slot rows rest (omega (arith, fit)))
       ∙ ap (λ (b : Bool). b || list_any test (threads_on (slots_of rows rest))) (sym (any_here row s.here))
       ∙ sym (list_any-append test (map (with_specific row) (threads_of s.here)) (threads_on (slots_of rows rest)))
-
--- a slot whose thread passes
-pub any_found : (test : Thread → Bool) (threads : List Slot) (slot : ℕ) → slot < length threads → any_on test (held_at threads slot) ≡ true → list_any (λ s. any_on test s.here) threads ≡ true
-any_found test threads slot inside passes = list_any_at (λ (s : Slot). any_on test s.here) threads slot unused inside passes
-
--- no slot has one
-pub any_none : (test : Thread → Bool) (threads : List Slot) (n : ℕ) → length threads ≤ n → list_any (λ s. any_on test s.here) (take n threads) ≡ false → list_any (λ s. any_on test s.here) threads ≡ false
-any_none test threads n whole none = ap (list_any (λ (s : Slot). any_on test s.here)) (sym (take_all n threads whole)) ∙ none
 
 -- ---- new ids
 
@@ -123,9 +117,9 @@ module _ (keys : Table) (k : ℕ) where
   detached_here None place is = absurd (none-some place is)
   detached_here (Some h) place is = sym (ap (λ (p : Place). Some p.detached) (same_Some (place_of h) place is))
 
-  ended_here : (o : Option Held) (kept : Kept) → option_map (λ h. h.thread) o ≡ Some kept → exit_value_of kept.status ≡ option_and_then (λ t. exit_value_of t.status) (option_map (λ h. with_specific (row_at keys k) (thread_of h)) o)
-  ended_here None kept is = absurd (none-some kept is)
-  ended_here (Some h) kept is = sym (ap (λ (r : Kept). exit_value_of r.status) (same_Some h.thread kept is))
+  ended_here : (o : Option Held) → ended_value (standing_on o) ≡ option_and_then (λ t. exit_value_of t.status) (option_map (λ h. with_specific (row_at keys k) (thread_of h)) o)
+  ended_here None = refl
+  ended_here (Some h) = ended_by h.thread.status
 
 module _ (keys : Table) (threads : List Slot) (fit : length keys.rows ≡ length threads) (tid : ℕ) (timeouts : Bool) (family : Family) (environment : Environment) (sees : environment ≡ environment_in timeouts (length (slots_of keys.rows threads)) family (slots_of keys.rows threads) tid) where
   -- the thread with an id is that on the slot that the id names
@@ -141,13 +135,18 @@ module _ (keys : Table) (threads : List Slot) (fit : length keys.rows ≡ length
       pub is_detached : (place : Place) → place_at threads k ≡ Some place → Some place.detached ≡ option_map (λ t. t.detached) (environment.named id)
       is_detached place here = detached_here keys k (held_at threads k) place here ∙ ap (option_map (λ (t : Thread). t.detached)) there
 
-      pub has_ended : (kept : Kept) → thread_at threads k ≡ Some kept → exit_value_of kept.status ≡ exit_value_with id environment
-      has_ended kept here = ended_here keys k (held_at threads k) kept here ∙ ap (option_and_then (λ t. exit_value_of t.status)) there
+      pub has_ended : (v : StandingsValue) → AreStandings v threads → k < 64 → ended_value (standing_at v k) ≡ exit_value_with id environment
+      has_ended v are small = ap ended_value (are.each k small) ∙ ended_here keys k (held_at threads k) ∙ ap (option_and_then (λ t. exit_value_of t.status)) there
 
   -- a thread joins the one with an id
-  pub joins_read : (id : ℕ) → list_any (λ s. any_on (λ t. is_joining id t.status) s.here) threads ≡ environment.another_joins id
+  pub joins_read : (v : StandingsValue) → AreStandings v threads → length threads ≤ 64 → (id : ℕ) → list_any (joins id) v.of ≡ environment.another_joins id
   unfolding environment_in
-  joins_read id = any_slot (λ t. is_joining id t.status) (λ own t. refl) keys.rows threads fit ∙ ap (λ (o : Environment). o.another_joins id) (sym sees)
+  joins_read v are few id =
+      let stands : Thread → Bool = λ t. joins id (standing_of t.status) in
+      any_stands v threads are (joins id) few refl
+      ∙ any_slot stands (λ own t. refl) keys.rows threads fit
+      ∙ any_agree stands (λ t. is_joining id t.status) (λ t. joins_by id t.status) (threads_on (slots_of keys.rows threads))
+      ∙ ap (λ (o : Environment). o.another_joins id) (sym sees)
 
   -- each other thread has ended
   pub is_last_read : list_all (λ s. has_no_other tid s.here) threads ≡ environment.is_last

@@ -5,6 +5,7 @@ pub mod ListedChoices
 pub mod KeyChoices
 pub mod WaiterChoices
 pub mod CancelRows
+pub mod StandingsRead
 pub mod EnvironmentRead
 pub mod WaitersRead
 pub mod ProcessReads

@@ -1,8 +1,8 @@
 -- What is read of the table of threads is which threads wait on a condition variable.
 use Rattle.pct_names.proofs.Names.{◌&&◌, ◌+◌, ◌++◌, [], All, ap, arith, Bool, cases_lt, cond, drop, drop_all, drop_more, Environment, false}
 use Rattle.pct_names.proofs.Names.{false≢true, Family, filter_passes, get_or_past, inl, inr, is_some, is_waiting_on, KeyValues, length}
-use Rattle.pct_names.proofs.Names.{List, list_any, map, map-append, nat_eq, None, none-some, not, Option, option_map, option_map_or}
-use Rattle.pct_names.proofs.Names.{range_with_len, refl, same_Some, Some, Status, suc, sym, Thread, true, Waiter, waiter_by, waiters_among}
+use Rattle.pct_names.proofs.Names.{List, list_any, map, map-append, nat_eq, None, not, Option, option_map_or}
+use Rattle.pct_names.proofs.Names.{range_with_len, refl, Some, Status, suc, sym, Thread, true, Waiter, waiter_by, waiters_among}
 use Rattle.pct_names.proofs.Names.{waits_with_another_mutex, zero, ℕ, ◌∙◌, ◌∷◌, ◌≡◌, ◌≤◌}
 use Rattle.std.proofs.Common.{append-nil}
 use Rattle.std.specs.List.{flat_map}
@@ -10,7 +10,6 @@ use Rattle.std.proofs.Math.Bool.{or-false}
 use Rattle.std.proofs.lemmas.List.Concat.{flat_map-append}
 use Rattle.pct_model.specs.declared.state.Status.TheVariants as status
 use Rattle.pct_set.specs.Slots.{slots_where}
-use Rattle.pct_threads.specs.declared.record.Thread.{Thread as Kept}
 use Rattle.pct_threads.specs.Slots.{Held, Slot, unused}
 use Rattle.pct_threads.specs.Tables.{slot_at, held_at, is_occupied_at}
 use Rattle.pct_keys.specs.Tables.{Table}
@@ -19,7 +18,9 @@ use Rattle.pct_engine_laws.specs.SeenSteps.{environment_in}
 use Rattle.pct_engine_laws.proofs.ListFacts.{any_agree, any-flat_map, map-filter}
 use Rattle.pct_process.specs.ThreadViews.{threads_of, with_specific}
 use Rattle.pct_process.specs.ProcessViews.{slots_of}
-use Rattle.pct_transitions.specs.OtherThreads.{any_on, is_waiting_with_another, id_at, ids_on}
+use Rattle.pct_process.specs.Standings.{AreStandings, StandingsValue, standing_of, waits_with_another}
+use Rattle.pct_transitions.specs.OtherThreads.{any_on, id_at, ids_on}
+use Rattle.pct_transitions.proofs.StandingsRead.{any_stands}
 use Rattle.pct_transitions.proofs.EnvironmentRead.{any_slot}
 
 -- ---- the thread on a slot
@@ -28,11 +29,6 @@ use Rattle.pct_transitions.proofs.EnvironmentRead.{any_slot}
 pub any_there : (test : Thread → Bool) (here : Option Held) → any_on test here ≡ true → is_some here ≡ true
 any_there test None passes = absurd (false≢true passes)
 any_there test (Some h) passes = refl
-
--- a test of its status
-pub status_test : (test : Status → Bool) (here : Option Held) (kept : Kept) → option_map (λ h. h.thread) here ≡ Some kept → test kept.status ≡ any_on (λ t. test t.status) here
-status_test test None kept is = absurd (none-some kept is)
-status_test test (Some h) kept is = sym (ap (λ (r : Kept). test r.status) (same_Some h.thread kept is))
 
 -- one that waits holds its slot
 pub waiters_held : (threads : List Slot) (c : ℕ) → All (λ s. is_occupied_at threads s ≡ true) (slots_where (λ s. any_on (λ t. is_waiting_on c t.status) (held_at threads s)))
@@ -43,7 +39,7 @@ waiters_held threads c = λ k d inside.
 
 -- ---- another mutex
 
-another_by : (c m id : ℕ) (s : Status) → is_waiting_with_another c m s ≡ list_any (λ (waiter : Waiter). not (nat_eq waiter.mutex m)) (waiter_by c id s)
+another_by : (c m id : ℕ) (s : Status) → waits_with_another c m (standing_of s) ≡ list_any (λ (waiter : Waiter). not (nat_eq waiter.mutex m)) (waiter_by c id s)
 another_by c m id (status.Waiting waited mutex) = either (nat_eq waited c) where
   either : (waits : Bool) → (waits && not (nat_eq mutex m)) ≡ list_any (λ (waiter : Waiter). not (nat_eq waiter.mutex m)) (cond waits (record { id = id; mutex = mutex } ∷ []) [])
   either true = sym (or-false (not (nat_eq mutex m)))
@@ -97,12 +93,14 @@ module _ (c : ℕ) where
 
 module _ (keys : Table) (threads : List Slot) (fit : length keys.rows ≡ length threads) (tid : ℕ) (timeouts : Bool) (family : Family) (environment : Environment) (sees : environment ≡ environment_in timeouts (length (slots_of keys.rows threads)) family (slots_of keys.rows threads) tid) (c : ℕ) where
   -- a thread waits with another mutex
-  pub another_mutex_read : (m : ℕ) → list_any (λ s. any_on (λ t. is_waiting_with_another c m t.status) s.here) threads ≡ waits_with_another_mutex c m environment
+  pub another_mutex_read : (v : StandingsValue) → AreStandings v threads → length threads ≤ 64 → (m : ℕ) → list_any (waits_with_another c m) v.of ≡ waits_with_another_mutex c m environment
   unfolding environment_in
-  another_mutex_read m =
+  another_mutex_read v are few m =
       let seen : List Thread = threads_on (slots_of keys.rows threads) in
-      any_slot (λ t. is_waiting_with_another c m t.status) (λ own t. refl) keys.rows threads fit
-      ∙ any_agree (λ (t : Thread). is_waiting_with_another c m t.status) (λ t. list_any (λ waiter. not (nat_eq waiter.mutex m)) (waiter_by c t.id t.status)) (λ t. another_by c m t.id t.status) seen
+      let stands : Thread → Bool = λ t. waits_with_another c m (standing_of t.status) in
+      any_stands v threads are (waits_with_another c m) few refl
+      ∙ any_slot stands (λ own t. refl) keys.rows threads fit
+      ∙ any_agree stands (λ t. list_any (λ waiter. not (nat_eq waiter.mutex m)) (waiter_by c t.id t.status)) (λ t. another_by c m t.id t.status) seen
       ∙ sym (any-flat_map (λ (waiter : Waiter). not (nat_eq waiter.mutex m)) (λ (t : Thread). waiter_by c t.id t.status) seen)
       ∙ ap (λ (o : Environment). waits_with_another_mutex c m o) (sym sees)
 

@@ -304,7 +304,7 @@ pub(crate) fn choices_at(context: &Context) -> Choices
             cancel.deliverable(),
         ),
         Status::InSem(sem) => go_expire_or_act(
-            count_of(context.counts, sem) > 0,
+            count_of(context.counts(), sem) > 0,
             can_expire(context),
             cancel.deliverable(),
         ),
@@ -344,7 +344,7 @@ fn unblocked_choices(context: &Context, cond: u32, mutex: u32, cause: Cause) -> 
         → listed context.now.threads.now context.now.position.keys.now result ≡ choices_at body shared t environment (next_at context.now.position.next) (status.Reacquire cond mutex cause) }
     ensures within { AreWithin context.now.threads.now result }
 {
-    let free = is_free_mutex(context.owners, mutex);
+    let free = is_free_mutex(context.owners(), mutex);
     if !context.position.thread.cancel.deliverable() {
         return go_or_act(free, false);
     }
@@ -419,8 +419,8 @@ fn statement_choices(context: &Context, statement: &Stmt) -> Choices
     match statement {
         Stmt::Create { .. } => new_or_go(&context.free_slots()),
         Stmt::KeyCreate { .. } => new_key_or_go(context.position.keys),
-        Stmt::Lock(mutex) => go_or_act(is_free_mutex(context.owners, *mutex), false),
-        Stmt::CallOnce { once, .. } => go_or_act(!is_busy(once_at(context.onces, *once)), false),
+        Stmt::Lock(mutex) => go_or_act(is_free_mutex(context.owners(), *mutex), false),
+        Stmt::CallOnce { once, .. } => go_or_act(!is_busy(once_at(context.onces(), *once)), false),
         Stmt::Signal(cond) => pick_or_go(&context.waiters(*cond)),
         _ => Choices::Go,
     }

@@ -184,9 +184,9 @@ pub(crate) fn begins_fork(registered: &ForkRegistrations, transition: &mut Trans
 #[inline(never)]
 pub(crate) fn goes_on_forking(context: &Context, at: &ForkAt, transition: &mut Transition)
     requires { IsWhole context.now }
-    ensures { (environment : Environment) → IsEnvironment context.now environment → transition.new ≡ goes_on_forking (next_handler context.now.fork_handlers.now at.now) at.now environment.family.new_pid (next_at context.now.position.next) }
+    ensures { (environment : Environment) → IsEnvironment context.now environment → transition.new ≡ goes_on_forking (next_handler context.now.process.now.shared.fork_handlers at.now) at.now environment.family.new_pid (next_at context.now.position.next) }
 {
-    match next_handler(context.fork_handlers.as_slice(), at) {
+    match next_handler(context.fork_handlers().as_slice(), at) {
         Some(handler) => *transition = calls_handler(at, handler),
         None => goes_on_after_handlers(context, at, transition),
     }

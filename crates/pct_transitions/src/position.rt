@@ -1,6 +1,6 @@
 //! What a step reads of a thread.
 
-ghost use Rattle.std.specs.Prelude.{◌≡◌, ◌<◌, length, Some, true};
+ghost use Rattle.std.specs.Prelude.{◌≡◌, ◌+◌, ◌<◌, length, Some, true};
 ghost use Rattle.pct_keys.specs.Tables.{row_at};
 ghost use Rattle.pct_threads.specs.Slots.{Held};
 ghost use Rattle.pct_threads.specs.Tables.{held_at, is_occupied_at};
@@ -10,8 +10,8 @@ ghost use Rattle.pct_process.specs.ThreadViews.{thread_of, with_specific};
 use crate::current::{At, next_of};
 use crate::program::Program;
 use pct_keys::Keys;
-use pct_model::Frame;
-use pct_threads::{Thread, Threads};
+use pct_threads::{Steps, Thread, Threads};
+use std::sync::ledger::Ledger;
 
 /// What a step reads of a thread; its next statement is decoded. In a contract, `IsPosition` says of which threads this is
 /// the position.
@@ -23,8 +23,6 @@ pub struct Position<'a> {
     pub next: Option<At<'a>>,
     /// The number of frames.
     pub depth: u32,
-    /// The frames, the oldest first.
-    pub frames: &'a [Frame],
     /// The record of the thread.
     pub thread: &'a Thread,
     /// The keys of its process. The row of its slot has its thread-specific data.
@@ -34,13 +32,14 @@ pub struct Position<'a> {
 }
 
 /// What a step reads of the thread on a slot, in a process with these keys. A thread holds the slot, and the keys have a row
-/// for it.
+/// for it. The record of the thread is read once.
 #[inline(always)]
-pub fn position_of<'a>(
+pub fn position_of<'a, L: Ledger>(
     program: &'a Program,
     threads: &'a Threads,
     keys: &'a Keys,
     slot: u32,
+    steps: &mut Steps<L>,
 ) -> Position<'a>
     requires occupied { is_occupied_at threads.now slot ≡ true }
     requires row { slot < length keys.now.rows }
@@ -49,14 +48,14 @@ pub fn position_of<'a>(
     ensures row { HasRow result }
     ensures keys { result.keys.now ≡ keys.now }
     ensures slot { result.slot ≡ slot }
+    ensures count { steps.new ≡ steps.old + 1 }
 {
     let place = threads.place(slot);
     Position {
         id: place.id,
         next: next_of(&program.script, threads.top_frame(slot)),
         depth: place.depth,
-        frames: threads.frames(slot),
-        thread: threads.read(slot),
+        thread: threads.read(slot, steps),
         keys,
         slot,
     }

@@ -1,6 +1,6 @@
 //! What the choices of a thread depend on, read one by one.
 
-ghost use Rattle.std.specs.Prelude.{◌≡◌, ◌&&◌, ℕ, Bool, Some, true, is_some, length, slice_index};
+ghost use Rattle.std.specs.Prelude.{◌≡◌, ◌&&◌, ◌+◌, ℕ, Bool, Some, true, is_some, length, slice_index};
 ghost use Rattle.pct_model.specs.World.{Thread};
 ghost use Rattle.pct_model.specs.NextStatement.{next_of};
 ghost use Rattle.pct_model.specs.MutexCalls.{is_free_mutex};
@@ -17,20 +17,26 @@ ghost use Rattle.pct_transitions.specs.ThreadRecords.{IsRecord};
 use crate::current::{At, is_timed_next, next_of};
 use crate::mutex_calls::is_free_mutex;
 use crate::once_calls::once_at;
-use crate::other_threads::exit_value_of;
+use crate::other_threads::ended_value;
 use crate::program::Program;
 use crate::sem_calls::count_of;
 use pct_model::OnceState;
 use pct_process::ProcessState;
-use pct_threads::Thread as ThreadRecord;
+use pct_threads::{Steps, Thread as ThreadRecord};
+use std::sync::ledger::Ledger;
 
-/// The record of the thread on a slot.
+/// The record of the thread on a slot, which is read once.
 #[inline(always)]
-pub fn record_of(process: &ProcessState, slot: u32) -> &ThreadRecord
+pub fn record_of<'a, L: Ledger>(
+    process: &'a ProcessState,
+    slot: u32,
+    steps: &mut Steps<L>,
+) -> &'a ThreadRecord
     requires { is_some (thread_on_slot process.now.slots slot) ≡ true }
-    ensures { (t : Thread) → thread_on_slot process.now.slots slot ≡ Some t → IsRecord result.now t }
+    ensures record { (t : Thread) → thread_on_slot process.now.slots slot ≡ Some t → IsRecord result.now t }
+    ensures count { steps.new ≡ steps.old + 1 }
 {
-    process.threads.read(slot)
+    process.threads.read(slot, steps)
 }
 
 /// The next statement of the thread on a slot, if there is one.
@@ -71,8 +77,10 @@ pub fn count_in(process: &ProcessState, sem: u32) -> u32
 pub fn has_ended(process: &ProcessState, id: u32) -> bool
     ensures { (timeouts : Bool) (family : OtherProcesses) (tid : ℕ) → result ≡ is_ended_thread id (environment_in timeouts (length process.now.slots) family process.now.slots tid) }
 {
+    // A table has at most 64 slots.
+    let _count = process.threads.slot_count();
     match process.threads.slot_named(id) {
-        Some(slot) => exit_value_of(process.threads.read(slot).status).is_some(),
+        Some(slot) => ended_value(process.standings.standing(slot)).is_some(),
         None => false,
     }
 }

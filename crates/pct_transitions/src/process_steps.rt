@@ -1,6 +1,6 @@
 //! The steps of the threads of a process.
 
-ghost use Rattle.std.specs.Prelude.{◌≡◌, IfSome, Some, is_some, length, slice_get, true};
+ghost use Rattle.std.specs.Prelude.{◌≡◌, ◌+◌, ◌<◌, IfSome, Some, is_some, length, slice_get, true};
 ghost use Rattle.pct_model.specs.Formats.{has_timeouts};
 ghost use Rattle.pct_model.specs.World.{Thread, SharedState};
 ghost use Rattle.pct_model.specs.Environment.{Environment};
@@ -21,6 +21,9 @@ use crate::readiness::{is_met, ready_when};
 use crate::transition_table::transition_by;
 use pct_model::{Alt, Transition};
 use pct_process::ProcessState;
+use pct_threads::Steps;
+use std::marker::Brand;
+use std::sync::ledger::{Blank, Ledger};
 
 // ---- choices
 
@@ -29,7 +32,26 @@ pub fn has_choice(around: Surroundings, process: &ProcessState, slot: u32) -> bo
     requires { is_some (thread_on_slot process.now.slots slot) ≡ true }
     ensures { (t : Thread) → thread_on_slot process.now.slots slot ≡ Some t → result ≡ is_ready_in around.entry.program.now.script (has_timeouts around.entry.program.now.config.format) (length process.now.slots) (other_processes around.entry.family) (with_data process.now) t }
 {
-    is_met(around, process, ready_when(around.program, process, slot))
+    has_choice_counted::<Brand>(around, process, slot, Blank::new(1))
+}
+
+// The same, with a count on a new ledger.
+#[inline(always)]
+fn has_choice_counted<L: Ledger>(
+    around: Surroundings,
+    process: &ProcessState,
+    slot: u32,
+    blank: Blank,
+) -> bool
+    requires held { is_some (thread_on_slot process.now.slots slot) ≡ true }
+    requires name { blank.name ≡ L.name }
+    requires parts { blank.parts ≡ L.parts }
+    requires some { 0 < blank.parts }
+    ensures { (t : Thread) → thread_on_slot process.now.slots slot ≡ Some t → result ≡ is_ready_in around.entry.program.now.script (has_timeouts around.entry.program.now.config.format) (length process.now.slots) (other_processes around.entry.family) (with_data process.now) t }
+{
+    let mut steps = Steps::<L>::new(blank);
+    let when = ready_when(around.program, process, slot, &mut steps);
+    is_met(around, process, when)
 }
 
 /// The choice of the thread on a slot that a number chooses, modulo the number of its choices. `None` exactly if it has none.
@@ -43,16 +65,17 @@ pub fn choice_by(
     requires numbers { NewNumbersFit process.now }
     ensures { (t : Thread) → thread_on_slot process.now.slots slot ≡ Some t → result ≡ item_at (choices_in around.entry.program.now.script (has_timeouts around.entry.program.now.config.format) (length process.now.slots) (other_processes around.entry.family) (with_data process.now) t) number }
 {
-    numbered(&Context::new(around, process, slot), number)
+    numbered(&Context::uncounted(around, process, slot), number)
 }
 
-/// The same, and writes what the thread does by the choice to `transition`.
-pub fn transition_by_number(
+/// The same, and writes what the thread does by the choice to `transition`. The record of the thread is read once.
+pub fn transition_by_number<L: Ledger>(
     around: Surroundings,
     process: &ProcessState,
     slot: u32,
     number: u32,
     transition: &mut Transition,
+    steps: &mut Steps<L>,
 ) -> Option<Alt>
     requires held { is_some (thread_on_slot process.now.slots slot) ≡ true }
     requires numbers { NewNumbersFit process.now }
@@ -60,8 +83,9 @@ pub fn transition_by_number(
     ensures chosen { (t : Thread) → thread_on_slot process.now.slots slot ≡ Some t → result ≡ item_at (choices_in around.entry.program.now.script (has_timeouts around.entry.program.now.config.format) (length process.now.slots) (other_processes around.entry.family) (with_data process.now) t) number }
     ensures taken { (t : Thread) → thread_on_slot process.now.slots slot ≡ Some t → IfSome result (λ choice. Takes around.entry.program.now.script around.entry.program.now.config (other_processes around.entry.family) process.now t choice true transition.new) }
     ensures fits { (t : Thread) → thread_on_slot process.now.slots slot ≡ Some t → IfSome result (λ choice. Fits (length t.frames) (length t.handlers) t.pass transition.new.own) }
+    ensures count { steps.new ≡ steps.old + 1 }
 {
-    let context = Context::new(around, process, slot);
+    let context = Context::new(around, process, slot, steps);
     let choice = numbered(&context, number)?;
     transition_by(&context, choice, transition);
     Some(choice)
@@ -73,7 +97,7 @@ pub fn choice_count(around: Surroundings, process: &ProcessState, slot: u32) -> 
     requires numbers { NewNumbersFit process.now }
     ensures { (t : Thread) → thread_on_slot process.now.slots slot ≡ Some t → result ≡ length (choices_in around.entry.program.now.script (has_timeouts around.entry.program.now.config.format) (length process.now.slots) (other_processes around.entry.family) (with_data process.now) t) }
 {
-    let context = Context::new(around, process, slot);
+    let context = Context::uncounted(around, process, slot);
     choices_at(&context).count(context.position.keys)
 }
 
@@ -88,27 +112,30 @@ pub fn choice_at(
     requires numbers { NewNumbersFit process.now }
     ensures { (t : Thread) → thread_on_slot process.now.slots slot ≡ Some t → result ≡ slice_get (choices_in around.entry.program.now.script (has_timeouts around.entry.program.now.config.format) (length process.now.slots) (other_processes around.entry.family) (with_data process.now) t) index }
 {
-    let context = Context::new(around, process, slot);
+    let context = Context::uncounted(around, process, slot);
     choices_at(&context).nth(context.threads, context.position.keys, index)
 }
 
 // ---- steps
 
-/// Whether a choice of the thread on a slot is offered. If it is, what the thread does by it is written to `transition`.
-pub fn transition_if_offered(
+/// Whether a choice of the thread on a slot is offered. If it is, what the thread does by it is written to `transition`. The record of
+/// the thread is read once.
+pub fn transition_if_offered<L: Ledger>(
     around: Surroundings,
     process: &ProcessState,
     slot: u32,
     choice: Alt,
     transition: &mut Transition,
+    steps: &mut Steps<L>,
 ) -> bool
     requires held { is_some (thread_on_slot process.now.slots slot) ≡ true }
     requires numbers { NewNumbersFit process.now }
     requires room { ForksHaveRoom process.now.slots }
     ensures taken { (t : Thread) → thread_on_slot process.now.slots slot ≡ Some t → Takes around.entry.program.now.script around.entry.program.now.config (other_processes around.entry.family) process.now t choice result transition.new }
     ensures fits { (t : Thread) → thread_on_slot process.now.slots slot ≡ Some t → result ≡ true → Fits (length t.frames) (length t.handlers) t.pass transition.new.own }
+    ensures count { steps.new ≡ steps.old + 1 }
 {
-    let context = Context::new(around, process, slot);
+    let context = Context::new(around, process, slot, steps);
     if !choices_at(&context).offers(context.threads, context.position.keys, choice) {
         return false;
     }

@@ -1,6 +1,6 @@
 //! When a thread has a choice, without the list of its choices.
 
-ghost use Rattle.std.specs.Prelude.{◌≡◌, ◌&&◌, ◌||◌, ℕ, Some, not, true, is_some, length};
+ghost use Rattle.std.specs.Prelude.{◌≡◌, ◌&&◌, ◌||◌, ◌+◌, ℕ, Some, not, true, is_some, length};
 ghost use Rattle.pct_model.specs.Formats.{has_timeouts};
 ghost use Rattle.pct_model.specs.World.{Thread};
 ghost use Rattle.pct_model.specs.StopTable.{is_fork_kind};
@@ -21,6 +21,8 @@ use crate::stop_table::is_fork_kind;
 use pct_cancel::Cancel;
 use pct_model::{Cause, FrameKind, Status, Stmt};
 use pct_process::ProcessState;
+use pct_threads::Steps;
+use std::sync::ledger::Ledger;
 
 /// When a thread has a choice.
 #[derive(Clone, Copy)]
@@ -41,12 +43,18 @@ pub enum ReadyWhen {
     ChildEnded(u32),
 }
 
-/// When the thread on a slot has a choice.
-pub fn ready_when(program: &Program, process: &ProcessState, slot: u32) -> ReadyWhen
+/// When the thread on a slot has a choice. The record of the thread is read once.
+pub fn ready_when<L: Ledger>(
+    program: &Program,
+    process: &ProcessState,
+    slot: u32,
+    steps: &mut Steps<L>,
+) -> ReadyWhen
     requires { is_some (thread_on_slot process.now.slots slot) ≡ true }
-    ensures { (t : Thread) → thread_on_slot process.now.slots slot ≡ Some t → result ≡ ready_when program.now.script (has_timeouts program.now.config.format) process.now.shared.restricted t }
+    ensures when { (t : Thread) → thread_on_slot process.now.slots slot ≡ Some t → result ≡ ready_when program.now.script (has_timeouts program.now.config.format) process.now.shared.restricted t }
+    ensures count { steps.new ≡ steps.old + 1 }
 {
-    let thread = record_of(process, slot);
+    let thread = record_of(process, slot, steps);
     let cancel = &thread.cancel;
     match thread.status {
         Status::Running => match next_on(program, process, slot) {

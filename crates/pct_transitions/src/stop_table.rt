@@ -51,21 +51,21 @@ fn own_stop(context: &Context, at: &At) -> Option<Why>
         → result ≡ first_stop (stops_of (body_of context.now.program.now.script at.now.frame.now.func) shared t environment at.now.frame.now at.now.statement.now) }
 {
     let position = &context.position;
-    let globals = context.globals;
+    let globals = context.globals();
     let frame = at.frame;
     match at.statement {
         Stmt::Join { id, .. } => stop_of_join(context, value_of(globals, frame, *id)),
         Stmt::Detach(id) => stop_of_detach(context, value_of(globals, frame, *id)),
         Stmt::CancelThread(id) => stop_of_request(context, value_of(globals, frame, *id)),
         Stmt::SetState { enable, .. } => first_stop(&[(
-            *enable && is_in_handler(position.frames),
+            *enable && is_in_handler(context.frames()),
             Why::EnableInHandler,
         )]),
         Stmt::KeyDelete(key) | Stmt::SetSpecific(key, _) | Stmt::GetSpecific(_, key) => {
             stop_of_key(position.keys, value_of(globals, frame, *key))
         }
         Stmt::Unlock(mutex) => first_stop(&[(
-            !owns(context.owners, *mutex, position.id),
+            !owns(context.owners(), *mutex, position.id),
             Why::NotOwner,
         )]),
         Stmt::CondWait { cond, mutex } | Stmt::CondTimedWait { cond, mutex, .. } => stop_of_wait(
@@ -75,21 +75,22 @@ fn own_stop(context: &Context, at: &At) -> Option<Why>
             has_begun_to_end(position.thread.reason),
             Why::ForkInEnding,
         )]),
-        Stmt::ProcExit(_) => first_stop(&[(context.exit_value.is_some(), Why::ExitTwice)]),
+        Stmt::ProcExit(_) => first_stop(&[(context.exit_value().is_some(), Why::ExitTwice)]),
         Stmt::ThreadExit(_) => first_stop(&[(
             has_begun_to_end(position.thread.reason),
             Why::ExitInEnding,
         )]),
         Stmt::Return(_) => first_stop(&[(
-            exits_twice(frame.kind, context.exit_value),
+            exits_twice(frame.kind, context.exit_value()),
             Why::ExitTwice,
         )]),
         Stmt::End => first_stop(&[(
-            exits_twice(frame.kind, context.exit_value) && closes_function(context.program, frame),
+            exits_twice(frame.kind, context.exit_value())
+                && closes_function(context.program, frame),
             Why::ExitTwice,
         )]),
         Stmt::CallOnce { once, .. } => first_stop(&[(
-            is_fresh(once_at(context.onces, *once)) && is_stack_full(position.depth),
+            is_fresh(once_at(context.onces(), *once)) && is_stack_full(position.depth),
             Why::StackFull,
         )]),
         Stmt::Do(_, _) => first_stop(&[(is_stack_full(position.depth), Why::StackFull)]),
@@ -159,12 +160,12 @@ fn stop_of_key(keys: &Keys, key: u32) -> Option<Why>
 #[inline(always)]
 fn stop_of_wait(context: &Context, cond: u32, mutex: u32) -> Option<Why>
     requires { IsWhole context.now }
-    ensures { (shared : SharedState) (environment : Environment) → context.now.owners.now ≡ shared.owners → IsEnvironment context.now environment
+    ensures { (shared : SharedState) (environment : Environment) → context.now.process.now.shared ≡ shared → IsEnvironment context.now environment
         → result ≡ first_stop ((not (owns context.now.position.id mutex shared), why.NotOwner) ∷ (waits_with_another_mutex cond mutex environment, why.CondTwoMutexes) ∷ []) }
 {
     first_stop(&[
         (
-            !owns(context.owners, mutex, context.position.id),
+            !owns(context.owners(), mutex, context.position.id),
             Why::NotOwner,
         ),
         (
@@ -270,10 +271,10 @@ fn closes_function(program: &Program, frame: &Frame) -> bool
 #[tactic(auto, unfolding(pct_model::specs::StopTable::is_forbidden_in_child))]
 #[inline(always)]
 pub(crate) fn is_forbidden_in_child(context: &Context, at: &At) -> bool
-    ensures { (shared : SharedState) → context.now.restricted ≡ shared.restricted
+    ensures { (shared : SharedState) → context.now.process.now.shared ≡ shared
         → result ≡ is_forbidden_in_child (body_of context.now.program.now.script at.now.frame.now.func) shared at.now.frame.now at.now.statement.now }
 {
-    context.restricted && is_forbidden_if_restricted(context.program, at)
+    context.is_restricted() && is_forbidden_if_restricted(context.program, at)
 }
 
 // The same for a process that is such a child. What a fork handler executes is allowed.

@@ -88,7 +88,7 @@ fn transition_at(context: &Context, choice: Alt, transition: &mut Transition)
         Status::Ending => goes_on_ending(context, passes, choice, transition),
         Status::Forking(at) => goes_on_forking(context, &at, transition),
         Status::Exiting => {
-            goes_on_exiting(context.exit_functions, context.exit_value, transition);
+            goes_on_exiting(context.exit_functions(), context.exit_value(), transition);
         }
         _ => *transition = no_change(),
     }
@@ -131,7 +131,7 @@ fn runs(context: &Context, at: &At, choice: Alt, transition: &mut Transition)
         → transition.new ≡ runs context.now.program.now.config.passes (body_of context.now.program.now.script at.now.frame.now.func) shared t environment choice at.now.frame.now at.now.statement.now }
 {
     let program = context.program;
-    let globals = context.globals;
+    let globals = context.globals();
     let position = &context.position;
     let frame = at.frame;
     match at.statement {
@@ -239,7 +239,7 @@ fn runs(context: &Context, at: &At, choice: Alt, transition: &mut Transition)
         Stmt::SemWait(sem) => *transition = begins_sem_wait(SEM_WAIT_POINT, *sem),
         Stmt::SemTimedWait { sem, .. } => *transition = begins_sem_wait(SEM_TIMEDWAIT_POINT, *sem),
         Stmt::SemPost(sem) => {
-            *transition = posts(next_pc(frame), *sem, count_of(context.counts, *sem));
+            *transition = posts(next_pc(frame), *sem, count_of(context.counts(), *sem));
         }
         Stmt::CallOnce { once, func } => {
             let call = OnceCall {
@@ -247,7 +247,7 @@ fn runs(context: &Context, at: &At, choice: Alt, transition: &mut Transition)
                 func: *func,
                 id: position.id,
             };
-            let state = once_at(context.onces, *once);
+            let state = once_at(context.onces(), *once);
             calls_once(call, next_pc(frame), state, transition);
         }
         Stmt::AtFork {
@@ -264,9 +264,9 @@ fn runs(context: &Context, at: &At, choice: Alt, transition: &mut Transition)
                     child: *child,
                 },
             };
-            registers_fork(&call, next_pc(frame), context.fork_handlers, transition);
+            registers_fork(&call, next_pc(frame), context.fork_handlers(), transition);
         }
-        Stmt::Fork { .. } => begins_fork(context.fork_handlers, transition),
+        Stmt::Fork { .. } => begins_fork(context.fork_handlers(), transition),
         Stmt::WaitPid {
             result: answer,
             pid,
@@ -279,7 +279,7 @@ fn runs(context: &Context, at: &At, choice: Alt, transition: &mut Transition)
             result: answer,
             func,
         } => {
-            let may = may_register(context.exit_functions, context.exit_value);
+            let may = may_register(context.exit_functions(), context.exit_value());
             registers_if(may, next_pc(frame), *answer, *func, transition);
         }
         Stmt::ProcExit(operand) => *transition = exits(value_of(globals, frame, *operand)),

@@ -1,6 +1,6 @@
 //! The text of `trace`: a line for each step of a run, and the line of the verdict.
 
-ghost use Rattle.std.specs.Prelude.{◌≡◌, ◌++◌, ◌≤◌, [], true, false, length, IfOk, IsTrue};
+ghost use Rattle.std.specs.Prelude.{◌≡◌, ◌++◌, ◌≤◌, ◌<◌, [], true, false, length, IfOk, IsTrue};
 ghost use Rattle.pct_engine.specs.EngineStates.{IsRunOf};
 ghost use Rattle.pct_history.specs.Replays.{Follows};
 ghost use Rattle.pct_model.specs.Run.{Run, is_config};
@@ -15,7 +15,10 @@ use pct_engine::{Engine, NotLegal};
 use pct_io::NoMemory;
 use pct_model::Entry;
 use pct_script::StatementLines;
+use pct_threads::Steps;
 use pct_views::start_of;
+use std::marker::Brand;
+use std::sync::ledger::{Blank, Ledger};
 
 /// Makes the steps of the entries of a schedule up to the first that is not legal, with an engine without entries, and appends the text of
 /// `trace` for them: a line for each step, and the line of the verdict. It returns the number of the entry that is not legal, counted from 1.
@@ -55,7 +58,7 @@ fn push_steps(
     let mut number = 0;
     for entry in entries {
         number += 1;
-        if !push_next(text, lines, engine, *entry)? {
+        if !push_next::<Brand>(text, lines, engine, *entry, Blank::new(1))? {
             return Ok(Some(number));
         }
     }
@@ -63,19 +66,24 @@ fn push_steps(
 }
 
 // Makes the step of an entry, and appends its line. The result is false exactly if the entry is not legal or the budget has no step left, and
-// then the run is as it was.
-fn push_next(
+// then the run is as it was. The records of threads that are lent are counted from 0 on.
+fn push_next<L: Ledger>(
     text: &mut TextBuffer,
     lines: &StatementLines,
     engine: &mut Engine,
     entry: Entry,
+    blank: Blank,
 ) -> Result<bool, NoMemory>
+    requires name { blank.name ≡ L.name }
+    requires parts { blank.parts ≡ L.parts }
+    requires some { 0 < blank.parts }
     ensures made { IfOk result (λ made. made ≡ true → MakesStep lines.now entry engine.old engine.new text.old text.new) }
     ensures refused { IfOk result (λ made. made ≡ false → RefusesStep entry engine.old engine.new text.old text.new) }
 {
     let start = start_of(engine, &entry);
     let count = engine.events().len();
-    if let Err(NotLegal) = engine.step(entry) {
+    let mut steps = Steps::<L>::new(blank);
+    if let Err(NotLegal) = engine.step(entry, &mut steps) {
         return Ok(false);
     }
     let (_, events) = engine.events().split_at(count);

@@ -2,6 +2,7 @@
 //! and where the step of an entry begins.
 #![tactic(auto)]
 
+mod records;
 mod start;
 mod thread_state;
 mod thread_view;

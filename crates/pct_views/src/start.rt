@@ -10,10 +10,10 @@ ghost use Rattle.pct_process.specs.ProcessViews.{thread_on_slot};
 ghost use Rattle.pct_view_laws.specs.SeenViews.{start_seen};
 ghost use Rattle.pct_view_laws.specs.TracedSteps.{position_in, start_in, start_of as start_of_thread};
 
+use crate::records::record_on;
 use pct_engine::Engine;
 use pct_model::{Entry, Frame, MAX_PROCESSES};
 use pct_process::ProcessState;
-use pct_transitions::record_of;
 use pct_view_laws::{Position, StepStart};
 
 /// Where the step of an entry begins, in the state of a run. `None` exactly if no thread with the id of the entry holds its slot in the process
@@ -51,7 +51,7 @@ pub(crate) fn start_on(state: &ProcessState, slot: u32) -> StepStart
     ensures { (t : Thread) → thread_on_slot state.now.slots slot ≡ Some t → result ≡ start_of_thread t }
 {
     StepStart {
-        status: record_of(state, slot).status,
+        status: record_on(state, slot).status,
         position: position_in(state.threads.top_frame(slot)),
     }
 }

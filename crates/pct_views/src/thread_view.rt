@@ -11,6 +11,7 @@ ghost use Rattle.pct_machine.specs.ShownProcesses.{ShowsProcess};
 ghost use Rattle.pct_view_laws.specs.Listed.{ListedThread, is_unended};
 ghost use Rattle.pct_views.specs.ShownThreads.{ShowsOne, IsUnended, listed_at};
 
+use crate::records::read_on;
 use crate::start::start_on;
 use crate::waiting::wait_on;
 use pct_cancel::Cancel;
@@ -69,7 +70,7 @@ pub(crate) fn unended_on(state: &ProcessState, slot: u32) -> Option<&ThreadRecor
     if !state.threads.is_occupied(slot) {
         return None;
     }
-    let thread = state.threads.read(slot);
+    let thread = read_on(&state.threads, slot);
     if is_ended(thread.status) {
         None
     } else {

@@ -13,11 +13,11 @@ ghost use Rattle.pct_transitions.specs.ProcessSteps.{with_data};
 ghost use Rattle.pct_model.specs.OnceCalls.{once_at};
 ghost use Rattle.pct_view_laws.specs.Waits.{mutex_wait, once_wait, wait_at, wait_by};
 
+use crate::records::record_on;
 use pct_model::{OnceState, Status, Stmt};
 use pct_process::ProcessState;
 use pct_transitions::{
-    At, Surroundings, count_in, has_choice, has_ended, is_unowned, may_pass_point, next_on,
-    once_in, record_of,
+    At, Surroundings, count_in, has_choice, has_ended, is_unowned, may_pass_point, next_on, once_in,
 };
 use pct_view_laws::Wait;
 
@@ -28,7 +28,7 @@ pub(crate) fn wait_on(around: Surroundings, state: &ProcessState, slot: u32) -> 
         → result ≡ wait_by state.now.shared (environment_in (has_timeouts around.entry.program.now.config.format) (length state.now.slots) (other_processes around.entry.family) state.now.slots t.id)
         (choices_in around.entry.program.now.script (has_timeouts around.entry.program.now.config.format) (length state.now.slots) (other_processes around.entry.family) (with_data state.now) t) (next_of around.entry.program.now.script t.frames) t.status }
 {
-    match record_of(state, slot).status {
+    match record_on(state, slot).status {
         Status::Running => {
             if has_choice(around, state, slot) {
                 None

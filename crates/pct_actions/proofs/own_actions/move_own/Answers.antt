@@ -1,8 +1,18 @@
-use Rattle.pct_actions.proofs.OwnChanges.{own_parts, room_left}
+use Rattle.pct_names.proofs.Names.{◌∙◌}
+use Rattle.pct_actions.proofs.OwnChanges.{own_parts, room_of_record}
+use Rattle.pct_actions.proofs.Stands.{not_reclaimed, stand_framed}
 use Rattle.pct_actions.proofs.own_actions.move_own.Goals as goal
 
-pub act_on_thread-requires-clause-fits : goal.act_on_thread-requires-clause-fits
-act_on_thread-requires-clause-fits c = room_left c.args.slot c.args.transition.now c.args.threads.now c.go_on.new.threads c.write_locals.new.threads c.go_on.ensures c.write_locals.ensures c.requires.occupied c.requires.fits
+pub move_record-requires-clause-fits : goal.move_record-requires-clause-fits
+move_record-requires-clause-fits g c = room_of_record c.args.slot c.args.transition.now.own c.args.threads.now c.requires.occupied c.requires.fits _ c.move_frames.new.threads c.move_frames.ensures
 
-pub returns : goal.returns
-returns c = own_parts c.args.slot c.args.transition.now c.args.threads.now c.go_on.new.threads c.write_locals.new.threads c.go_on.ensures c.write_locals.ensures c.act_on_thread.new.threads c.settle.new.threads c.act_on_thread.ensures c.settle.ensures
+pub returns-in-None-clause-table : goal.returns-in-None-clause-table
+returns-in-None-clause-table g c =
+    let recorded = c.move_record.new.threads in
+    own_parts c.args.slot c.args.transition.now c.args.threads.now c.move_frames.new.threads recorded recorded c.move_frames.ensures c.move_record.ensures.table (not_reclaimed c.args.slot recorded c.in-None.ensures.stand.1)
+
+pub returns-in-None-clause-stand : goal.returns-in-None-clause-stand
+returns-in-None-clause-stand g c = (c.in-None.ensures.stand.0 ∙ stand_framed c.args.slot _ c.args.threads.now c.move_frames.new.threads c.requires.occupied c.move_frames.ensures, c.in-None.ensures.stand.1)
+
+pub returns-in-Some-clause-table : goal.returns-in-Some-clause-table
+returns-in-Some-clause-table g c = own_parts c.args.slot c.args.transition.now c.args.threads.now c.move_frames.new.threads c.move_record.new.threads c.settle.new.threads c.move_frames.ensures c.move_record.ensures.table c.settle.ensures.table

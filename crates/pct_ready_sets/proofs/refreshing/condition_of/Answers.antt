@@ -24,16 +24,16 @@ held_by : (slots : List SeenSlot) (k : ℕ) (set : List ℕ) (b : Bool) → k < 
 held_by slots k set b small is has = sym (has ∙ ap (λ (set : List ℕ). has_slot set k) is ∙ has_where (λ k. is_some (thread_on_slot slots k)) k small)
 
 pub ready_when-requires : goal.ready_when-requires
-ready_when-requires c = held_by c.args.process.now.slots c.args.slot c.occupied.result c.contains.result c.requires c.occupied.ensures c.contains.ensures ∙ c.if-contains.true
+ready_when-requires g c = held_by c.args.process.now.slots c.args.slot c.occupied.result c.contains.result c.requires.slot c.occupied.ensures c.contains.ensures ∙ c.if-contains.true
 
 pub returns-then-contains : goal.returns-then-contains
-returns-then-contains c =
+returns-then-contains g c =
     let slots = c.args.process.now.slots in
     with_thread (thread_on_slot slots c.args.slot) (ready_when c.args.program.now.script (has_timeouts c.args.program.now.config.format) c.args.process.now.shared.restricted) c.ready_when.result
-    (held_by slots c.args.slot c.occupied.result c.contains.result c.requires c.occupied.ensures c.contains.ensures ∙ c.if-contains.true) c.ready_when.ensures
+    (held_by slots c.args.slot c.occupied.result c.contains.result c.requires.slot c.occupied.ensures c.contains.ensures ∙ c.if-contains.true) c.ready_when.ensures.when
 
 pub returns-else-contains : goal.returns-else-contains
-returns-else-contains c =
+returns-else-contains g c =
     let slots = c.args.process.now.slots in
     without_thread (thread_on_slot slots c.args.slot) (ready_when c.args.program.now.script (has_timeouts c.args.program.now.config.format) c.args.process.now.shared.restricted)
-    (held_by slots c.args.slot c.occupied.result c.contains.result c.requires c.occupied.ensures c.contains.ensures ∙ c.if-contains.false)
+    (held_by slots c.args.slot c.occupied.result c.contains.result c.requires.slot c.occupied.ensures c.contains.ensures ∙ c.if-contains.false)

@@ -4,11 +4,11 @@ use Rattle.pct_transitions.proofs.ProcessReads.{occupied_by, record_read}
 use Rattle.pct_transitions.proofs.process_reads.record_of.Goals as goal
 
 pub read-requires : goal.read-requires
-read-requires c =
+read-requires g c =
     let s = c.process.inside in
-    occupied_by s.keys s.threads c.process.invariant c.args.slot (subst (λ (d : ProcessData). is_some (thread_on_slot d.slots c.args.slot) ≡ true) (sym c.process.view_is) c.requires)
+    occupied_by s.keys s.threads c.process.invariant.0 c.args.slot (subst (λ (d : ProcessData). is_some (thread_on_slot d.slots c.args.slot) ≡ true) (sym c.process.view_is) c.requires)
 
-pub returns : goal.returns
-returns c = λ t at.
+pub returns-clause-record : goal.returns-clause-record
+returns-clause-record g c = λ t at.
     let s = c.process.inside in
-    record_read s.keys s.threads c.process.invariant c.args.slot t c.read.result.now c.read.ensures (subst (λ (d : ProcessData). thread_on_slot d.slots c.args.slot ≡ Some t) (sym c.process.view_is) at)
+    record_read s.keys s.threads c.process.invariant.0 c.args.slot t c.read.result.now c.read.ensures.value (subst (λ (d : ProcessData). thread_on_slot d.slots c.args.slot ≡ Some t) (sym c.process.view_is) at)

@@ -6,7 +6,7 @@ use Rattle.pct_transitions.proofs.process_steps.choice_at.Goals as goal
 pub returns : goal.returns
 returns c = λ t at.
     let p = c.args.process.now in
-    let is = c.new-context.ensures.context t at in
+    let is = c.uncounted-context.ensures.context t at in
     let environment = environment_in (has_timeouts c.args.around.program.now.config.format) (length p.slots) (other_processes c.args.around.family) p.slots t.id in
-    let choices = c.choices_at.ensures.value p.shared t environment is ∙ (λ i. choices_at (body_at (c.new-context.ensures.program i).script t.frames) p.shared t environment (next_of (c.new-context.ensures.program i).script t.frames) t.status) in
+    let choices = c.choices_at.ensures.value p.shared t environment is ∙ (λ i. choices_at (body_at (c.uncounted-context.ensures.program i).script t.frames) p.shared t environment (next_of (c.uncounted-context.ensures.program i).script t.frames) t.status) in
     c.nth.ensures ∙ ap (λ (xs : List Alt). slice_get xs c.args.index) choices

@@ -6,7 +6,7 @@ use Rattle.pct_transitions.proofs.NumberedChoices.{numbered_offered}
 use Rattle.pct_transitions.proofs.process_steps.transition_by_number.Goals as goal
 
 pub returns-in_err-choice-clause-chosen : goal.returns-in_err-choice-clause-chosen
-returns-in_err-choice-clause-chosen c = λ t at.
+returns-in_err-choice-clause-chosen g c = λ t at.
     let p = c.args.process.now in
     let environment = environment_in (has_timeouts c.args.around.program.now.config.format) (length p.slots) (other_processes c.args.around.family) p.slots t.id in
     c.from_residual.ensures
@@ -15,7 +15,7 @@ returns-in_err-choice-clause-chosen c = λ t at.
     ∙ (λ i. item_at (choices_at (body_at (c.new-context.ensures.program i).script t.frames) p.shared t environment (next_of (c.new-context.ensures.program i).script t.frames) t.status) c.args.number)
 
 pub returns-clause-chosen : goal.returns-clause-chosen
-returns-clause-chosen c = λ t at.
+returns-clause-chosen g c = λ t at.
     let p = c.args.process.now in
     let environment = environment_in (has_timeouts c.args.around.program.now.config.format) (length p.slots) (other_processes c.args.around.family) p.slots t.id in
     sym c.in_ok-choice.was
@@ -23,7 +23,7 @@ returns-clause-chosen c = λ t at.
     ∙ (λ i. item_at (choices_at (body_at (c.new-context.ensures.program i).script t.frames) p.shared t environment (next_of (c.new-context.ensures.program i).script t.frames) t.status) c.args.number)
 
 pub returns-clause-taken : goal.returns-clause-taken
-returns-clause-taken c = λ t at.
+returns-clause-taken g c = λ t at.
     let p = c.args.process.now in
     let is = c.new-context.ensures.context t at in
     let environment = environment_in (has_timeouts c.args.around.program.now.config.format) (length p.slots) (other_processes c.args.around.family) p.slots t.id in
@@ -38,4 +38,4 @@ returns-clause-taken c = λ t at.
     }
 
 pub returns-clause-fits : goal.returns-clause-fits
-returns-clause-fits c = λ t at. (c.transition_by.ensures.fits _ t _ (c.new-context.ensures.context t at) (c.requires.room c.args.slot t at)).own
+returns-clause-fits g c = λ t at. (c.transition_by.ensures.fits _ t _ (c.new-context.ensures.context t at) (c.requires.room c.args.slot t at)).own

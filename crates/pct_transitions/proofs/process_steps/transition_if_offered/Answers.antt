@@ -6,7 +6,7 @@ use Rattle.pct_transitions.specs.Programs.{ProgramValue}
 use Rattle.pct_transitions.proofs.process_steps.transition_if_offered.Goals as goal
 
 pub returns-then-not-offers-clause-taken : goal.returns-then-not-offers-clause-taken
-returns-then-not-offers-clause-taken c = λ t at.
+returns-then-not-offers-clause-taken g c = λ t at.
     let p = c.args.process.now in
     let is = c.new-context.ensures.context t at in
     let environment = environment_in (has_timeouts c.args.around.program.now.config.format) (length p.slots) (other_processes c.args.around.family) p.slots t.id in
@@ -17,7 +17,7 @@ returns-then-not-offers-clause-taken c = λ t at.
     }
 
 pub returns-clause-taken : goal.returns-clause-taken
-returns-clause-taken c = λ t at.
+returns-clause-taken g c = λ t at.
     let p = c.args.process.now in
     let is = c.new-context.ensures.context t at in
     let environment = environment_in (has_timeouts c.args.around.program.now.config.format) (length p.slots) (other_processes c.args.around.family) p.slots t.id in
@@ -28,4 +28,4 @@ returns-clause-taken c = λ t at.
     }
 
 pub returns-clause-fits : goal.returns-clause-fits
-returns-clause-fits c = λ t at taken. (c.transition_by.ensures.fits _ t _ (c.new-context.ensures.context t at) (c.requires.room c.args.slot t at)).own
+returns-clause-fits g c = λ t at taken. (c.transition_by.ensures.fits _ t _ (c.new-context.ensures.context t at) (c.requires.room c.args.slot t at)).own

@@ -4,14 +4,14 @@ use Rattle.pct_view_texts.proofs.StepLines.{no_fewer, text_of_step}
 use Rattle.pct_view_texts.proofs.trace.push_next.Goals as goal
 
 pub split_at-requires : goal.split_at-requires
-split_at-requires c =
+split_at-requires g c =
     let before = c.events-count.ensures.runs in
     let after = c.events.ensures.runs in
     let more = no_fewer c.args.engine.now c.step.new.self c.args.entry before.0 after.0 c.in_default.ensures.made before.1 after.1 in
     omega (arith, more, ap length (c.events-count.ensures.value before.0 before.1), ap length (c.events.ensures.value after.0 after.1))
 
 pub returns-clause-made : goal.returns-clause-made
-returns-clause-made c =
+returns-clause-made g c =
     let before = c.events-count.ensures.runs in
     let after = c.events.ensures.runs in
     let recent =

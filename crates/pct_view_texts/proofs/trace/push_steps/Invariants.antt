@@ -12,3 +12,6 @@ invariant-loop-entry l = record {
   legal : is_some (run l.initial.engine.script l.initial.engine.config (take l.entry-index l.entries)) ≡ true;
   text : text_in l.text ≡ text_in l.initial.text ++ steps_text l.lines l.engine;
 }
+
+abbrev pub ghosts-push_next : goal.ghosts-push_next
+ghosts-push_next a = record { name = a.blank.name; parts = a.blank.parts }

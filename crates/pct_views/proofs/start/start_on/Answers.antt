@@ -7,11 +7,11 @@ use Rattle.pct_views.proofs.start.start_on.Goals as goal
 pub top_frame-requires : goal.top_frame-requires
 top_frame-requires c =
     let s = c.state.inside in
-    occupied_by s.keys s.threads c.state.invariant c.args.slot (subst (λ (d : ProcessData). is_some (thread_on_slot d.slots c.args.slot) ≡ true) (sym c.state.view_is) c.requires)
+    occupied_by s.keys s.threads c.state.invariant.0 c.args.slot (subst (λ (d : ProcessData). is_some (thread_on_slot d.slots c.args.slot) ≡ true) (sym c.state.view_is) c.requires)
 
 pub returns : goal.returns
 returns c = λ t at.
     let s = c.state.inside in
-    let frames = frames_read s.keys s.threads c.state.invariant c.args.slot t (subst (λ (d : ProcessData). thread_on_slot d.slots c.args.slot ≡ Some t) (sym c.state.view_is) at) in
+    let frames = frames_read s.keys s.threads c.state.invariant.0 c.args.slot t (subst (λ (d : ProcessData). thread_on_slot d.slots c.args.slot ≡ Some t) (sym c.state.view_is) at) in
     let position = c.position_in.ensures ∙ ap (option_map position_in) (c.top_frame.ensures ∙ ap (λ (frames : List Frame). slice_get frames 0) frames) in
-    λ i. record { status = (c.record_of.ensures t at).status_is i; position = position i }
+    λ i. record { status = (c.record_on.ensures t at).status_is i; position = position i }

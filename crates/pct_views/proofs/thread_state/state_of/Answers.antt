@@ -8,18 +8,18 @@ use Rattle.pct_views.proofs.thread_state.state_of.Goals as goal
 pub frames-requires : goal.frames-requires
 frames-requires c =
     let s = c.state.inside in
-    occupied_by s.keys s.threads c.state.invariant c.args.slot (subst (λ (d : ProcessData). is_some (thread_on_slot d.slots c.args.slot) ≡ true) (sym c.state.view_is) c.requires.held)
+    occupied_by s.keys s.threads c.state.invariant.0 c.args.slot (subst (λ (d : ProcessData). is_some (thread_on_slot d.slots c.args.slot) ≡ true) (sym c.state.view_is) c.requires.held)
 
 pub place-requires : goal.place-requires
 place-requires c =
     let s = c.state.inside in
-    occupied_by s.keys s.threads c.state.invariant c.args.slot (subst (λ (d : ProcessData). is_some (thread_on_slot d.slots c.args.slot) ≡ true) (sym c.state.view_is) c.requires.held)
+    occupied_by s.keys s.threads c.state.invariant.0 c.args.slot (subst (λ (d : ProcessData). is_some (thread_on_slot d.slots c.args.slot) ≡ true) (sym c.state.view_is) c.requires.held)
 
 pub returns : goal.returns
 returns c = λ t at.
     let s = c.state.inside in
     let k = c.args.slot in
-    let fit = c.state.invariant in
+    let fit = c.state.invariant.0 in
     let here = subst (λ (d : ProcessData). thread_on_slot d.slots k ≡ Some t) (sym c.state.view_is) at in
     record {
       tid_is = id_is _ t _ at c.id_on.ensures;

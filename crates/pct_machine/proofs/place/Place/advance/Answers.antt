@@ -10,7 +10,7 @@ use Rattle.pct_machine.proofs.StepsOfProcess.{thread_of, makes, holds_on, id_is,
 use Rattle.pct_machine.proofs.place.Place.advance.Goals as goal
 
 pub make-requires : goal.make-requires
-make-requires c =
+make-requires g c =
     let program = c.args.around.program.now in
     let d = c.self.inside.state in
     let slot = c.args.slot in
@@ -20,7 +20,7 @@ make-requires c =
     c.in_ok-alt.ensures.taken (λ u at same. c.in_ok-alt.ensures.fits u at)
 
 pub returns-clause-taken : goal.returns-clause-taken
-returns-clause-taken c =
+returns-clause-taken g c =
     let program = c.args.around.program.now in
     let family = other_processes c.args.around.family in
     let slot = c.args.slot in
@@ -33,14 +33,14 @@ returns-clause-taken c =
     (subst (λ (q : SeenProcess). Takes program.script program.config family (data_in q) t.0 e.alt true o) c.self.view_is (c.in_ok-alt.ensures.taken t.0 at))
 
 pub returns-clause-made : goal.returns-clause-made
-returns-clause-made c =
+returns-clause-made g c =
     let s = c.self.inside in
     let slot = c.args.slot in
     let tid = c.id_on-tid.result in
     let o = c.transition_by_number.new.transition in
     let on : AreOnSlots s.state.slots = subst (λ (p : SeenProcess). AreOnSlots p.slots) (sym c.self.view_is) c.requires.can.on_slots in
     let t = thread_of (thread_on_slot s.state.slots slot) (subst (λ (p : SeenProcess). is_some (thread_on_slot p.slots slot) ≡ true) (sym c.self.view_is) c.requires.held) in
-    let moved = c.make.ensures tid (one_slot s.state.slots on tid slot (holds_on s.state.slots on slot tid t.0 t.1 (id_is s.state.slots slot tid t.0 t.1 c.id_on-tid.ensures))) in
+    let moved = c.make.ensures.made tid (one_slot s.state.slots on tid slot (holds_on s.state.slots on slot tid t.0 t.1 (id_is s.state.slots slot tid t.0 t.1 c.id_on-tid.ensures))) in
     (λ i. record { pid = s.relative.pid; parent = s.relative.parent; ended = s.relative.ended; slots = (moved i).slots; shared = (moved i).shared })
     ∙ ap (λ (p : SeenProcess). process_seen (length p.slots) tid o p) c.self.view_is
     ∙ ap (λ (n : ℕ). process_seen n tid o c.args.self.now) c.requires.can.all

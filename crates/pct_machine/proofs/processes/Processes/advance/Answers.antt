@@ -16,7 +16,7 @@ use Rattle.pct_machine.proofs.StepsOfProcess.{thread_of}
 use Rattle.pct_machine.proofs.processes.Processes.advance.Goals as goal
 
 pub advance-requires-clause-can : goal.advance-requires-clause-can
-advance-requires-clause-can c =
+advance-requires-clause-can g c =
     let s = c.self.inside in
     let p : SeenProcess = c.index_mut.result.now in
     let seat = subst (λ (list : ProcessList). IsSeat list.processes c.args.seat) (sym c.self.view_is) c.requires.seat in
@@ -25,7 +25,7 @@ advance-requires-clause-can c =
     (subst (λ (list : ProcessList). EachCanStep c.args.program.now.config.slots list.processes) (sym c.self.view_is) c.requires.can.each c.args.seat.place p found.at)
 
 pub invariant_of-self : goal.invariant_of-self
-invariant_of-self c =
+invariant_of-self g c =
     let s = c.self.inside in
     let i = c.args.seat.place in
     let o = c.advance.new.transition in
@@ -36,7 +36,7 @@ invariant_of-self c =
     sound_after_entry c.args.program.now.config.slots o i s.live s.made s.relatives s.places.items p found c.self.invariant c.advance.result c.advance.new.self after
 
 pub returns-clause-moved : goal.returns-clause-moved
-returns-clause-moved c =
+returns-clause-moved g c =
     let s = c.self.inside in
     let i = c.args.seat.place in
     let o = c.advance.new.transition in
@@ -48,7 +48,7 @@ returns-clause-moved c =
     ∙ ap (list_after_entry c.args.program.now.config.slots o c.advance.result) c.self.view_is
 
 pub returns-clause-chosen : goal.returns-clause-chosen
-returns-clause-chosen c =
+returns-clause-chosen g c =
     let s = c.self.inside in
     let seat_at = c.args.seat in
     let draw = c.args.draw in
@@ -70,7 +70,7 @@ returns-clause-chosen c =
     ∙ sym (ap (option_and_then (entry_for draw.worker draw.choice)) (candidate_is c.args.program.now.script (has_timeouts c.args.program.now.config.format) (families list) list.processes seat_at p t.0 found.at t.1)))
 
 pub returns-clause-taken : goal.returns-clause-taken
-returns-clause-taken c =
+returns-clause-taken g c =
     let s = c.self.inside in
     let seat_at = c.args.seat in
     let o = c.advance.new.transition in

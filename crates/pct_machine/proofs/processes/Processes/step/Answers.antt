@@ -1,4 +1,4 @@
-use Rattle.pct_names.proofs.Names.{ap, cond, Entry, Family, family_among, find, List, Relative, Some, subst, sym, ◌∙◌, ◌≡◌}
+use Rattle.pct_names.proofs.Names.{◌+◌, ap, cond, Entry, Family, family_among, find, List, Relative, Some, subst, sym, ℕ, ◌∙◌, ◌≡◌, ◌≤◌}
 use Rattle.pct_engine_laws.specs.Seen.{SeenProcess, process_seen, is_live_seen}
 use Rattle.pct_process.specs.FamilyViews.{other_processes}
 use Rattle.pct_transitions.specs.Programs.{ProgramValue}
@@ -6,14 +6,15 @@ use Rattle.pct_machine.specs.Places.{ProcessList, families}
 use Rattle.pct_machine.specs.ProcessSteps.{CanStep, EachCanStep, taken_in}
 use Rattle.pct_machine.specs.ListChanges.{list_moved}
 use Rattle.pct_machine.proofs.LegalEntries.{found_in, none_taken, taken_by}
+use Rattle.pct_machine.proofs.WokenThreads.{woken_found}
 use Rattle.pct_machine.proofs.PlacesAfter.{sound_after_step, list_after_step}
 use Rattle.pct_machine.proofs.processes.Processes.step.Goals as goal
 
 pub returns-in_default-clause-taken : goal.returns-in_default-clause-taken
-returns-in_default-clause-taken c = none_taken c.args.program.now.script c.args.program.now.config c.args.self.now c.args.entry.now (sym c.in_default.ensures)
+returns-in_default-clause-taken g c = none_taken c.args.program.now.script c.args.program.now.config c.args.self.now c.args.entry.now (sym c.in_default.ensures)
 
 pub step-requires : goal.step-requires
-step-requires c =
+step-requires g c =
     let s = c.self.inside in
     let e : Entry = c.args.entry.now in
     let p : SeenProcess = c.index_mut.result.now in
@@ -22,7 +23,7 @@ step-requires c =
     (subst (λ (list : ProcessList). EachCanStep c.args.program.now.config.slots list.processes) (sym c.self.view_is) c.requires.each c.in-Some.index p found.at)
 
 pub invariant_of-self : goal.invariant_of-self
-invariant_of-self c =
+invariant_of-self g c =
     let s = c.self.inside in
     let e : Entry = c.args.entry.now in
     let o = c.step.new.transition in
@@ -32,7 +33,7 @@ invariant_of-self c =
     sound_after_step c.args.program.now.config.slots e.pid e.tid o c.in-Some.index s.live s.made s.relatives s.places.items p found c.self.invariant c.step.result c.step.new.self after
 
 pub returns-clause-taken : goal.returns-clause-taken
-returns-clause-taken c =
+returns-clause-taken g c =
     let s = c.self.inside in
     let e : Entry = c.args.entry.now in
     let p : SeenProcess = c.index_mut.result.now in
@@ -47,7 +48,7 @@ returns-clause-taken c =
     ∙ c.step.ensures.taken
 
 pub returns-clause-moved : goal.returns-clause-moved
-returns-clause-moved c =
+returns-clause-moved g c =
     let s = c.self.inside in
     let e : Entry = c.args.entry.now in
     let o = c.step.new.transition in
@@ -56,3 +57,12 @@ returns-clause-moved c =
     let after = c.step.ensures.made ∙ ap (λ (program : ProgramValue). cond c.step.result (process_seen program.config.slots e.tid o p) p) c.surroundings-around.ensures.program in
     list_after_step c.args.program.now.config.slots e.pid e.tid o c.in-Some.index s.live s.made s.relatives s.places.items p found c.self.invariant c.step.result c.step.new.self after
     ∙ ap (λ (list : ProcessList). cond c.step.result (list_moved c.args.program.now.config.slots e.pid e.tid o list) list) c.self.view_is
+
+pub returns-clause-count : goal.returns-clause-count
+returns-clause-count g c =
+    let s = c.self.inside in
+    let e : Entry = c.args.entry.now in
+    let p : SeenProcess = c.index_mut.result.now in
+    let found = found_in e.pid c.in-Some.index s.live s.made s.places.items c.args.self.now c.self.view_is c.in-Some.ensures p c.index_mut.ensures.value in
+    let at : find (is_live_seen e.pid) c.args.self.now.processes ≡ Some p = subst (λ (list : ProcessList). find (is_live_seen e.pid) list.processes ≡ Some p) c.self.view_is found.first in
+    subst (λ (n : ℕ). c.step.new.steps ≤ c.args.steps.now + 3 + n) (woken_found e.pid c.step.new.transition c.step.result c.args.self.now.processes p at) c.step.ensures.count

@@ -3,7 +3,7 @@ use Rattle.pct_model.specs.declared.state.OnceState.TheVariants.{Fresh}
 use Rattle.pct_model.proofs.StaticFacts.{few_functions}
 use Rattle.pct_threads.specs.Slots.{with_call_alone}
 use Rattle.pct_threads.specs.Tables.{on_held, with_created}
-use Rattle.pct_process.proofs.FirstProcess.{few_declared, data-first, rows-first}
+use Rattle.pct_process.proofs.FirstProcess.{few_declared, data-first, rows-first, standings-first}
 use Rattle.pct_process.proofs.process_state.ProcessState.first.Goals as goal
 
 pub overflow_cast-main : goal.overflow_cast-main
@@ -40,6 +40,5 @@ returns c =
 
 pub invariant_of-result : goal.invariant_of-result
 invariant_of-result c =
-    rows-first c.args.slots c.main_of-main.result c.call_alone.new.self c.in_ok-new.field-0
-    (c.call_alone.ensures ∙ ap (on_held 0 (with_call_alone c.main_of-main.result 0 Main)) (c.create.ensures.table ∙ ap (with_created 0 c.main_of-main.result 0 false) c.in_ok-threads.ensures))
-    c.in_ok-new.ensures
+    let made = c.call_alone.ensures ∙ ap (on_held 0 (with_call_alone c.main_of-main.result 0 Main)) (c.create.ensures.table ∙ ap (with_created 0 c.main_of-main.result 0 false) c.in_ok-threads.ensures) in
+    (rows-first c.args.slots c.main_of-main.result c.call_alone.new.self c.in_ok-new.field-0 made c.in_ok-new.ensures, rw (c.put.ensures, c.new-standings.ensures) (standings-first c.args.slots c.main_of-main.result c.call_alone.new.self (omega (arith, c.requires.some)) made))

@@ -7,4 +7,4 @@ use Rattle.pct_process.proofs.process_state.ProcessState.is_last.Goals as goal
 pub returns : goal.returns
 returns c =
     let s = c.self.inside in
-    c.is_last.ensures ∙ last_read c.args.tid s.keys.rows s.threads c.self.invariant ∙ ap (λ (p : ProcessData). is_last_in c.args.tid p.slots) c.self.view_is
+    c.is_last.ensures ∙ last_read c.args.tid s.keys.rows s.threads c.self.invariant.0 ∙ ap (λ (p : ProcessData). is_last_in c.args.tid p.slots) c.self.view_is

@@ -8,4 +8,4 @@ pub returns : goal.returns
 returns c =
     let s = c.self.inside in
     subst (λ (p : ProcessData). c.occupied.result ≡ slots_where (λ k. is_some (thread_on_slot p.slots k))) c.self.view_is
-    (c.occupied.ensures ∙ occupied-are s.keys s.threads c.self.invariant)
+    (c.occupied.ensures ∙ occupied-are s.keys s.threads c.self.invariant.0)

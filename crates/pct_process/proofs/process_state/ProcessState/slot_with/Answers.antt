@@ -9,10 +9,10 @@ pub returns-clause-some : goal.returns-clause-some
 returns-clause-some c =
     let s = c.self.inside in
     subst (λ (p : ProcessData). IfSome c.slot_named.result (λ slot. HoldsThread (thread_with (length p.slots) c.args.id p.slots) (thread_on_slot p.slots slot))) c.self.view_is
-    (looked_up s.keys s.threads c.self.invariant c.args.id c.slot_named.result c.slot_named.ensures.value c.slot_named.ensures.some c.slot_named.ensures.occupied)
+    (looked_up s.keys s.threads c.self.invariant.0 c.args.id c.slot_named.result c.slot_named.ensures.value c.slot_named.ensures.some c.slot_named.ensures.occupied)
 
 pub returns-clause-none : goal.returns-clause-none
 returns-clause-none c =
     let s = c.self.inside in
     subst (λ (p : ProcessData). IfNone c.slot_named.result (thread_with (length p.slots) c.args.id p.slots ≡ None)) c.self.view_is
-    (not_looked_up s.keys s.threads c.self.invariant c.args.id c.slot_named.result c.slot_named.ensures.value c.slot_named.ensures.some)
+    (not_looked_up s.keys s.threads c.self.invariant.0 c.args.id c.slot_named.result c.slot_named.ensures.value c.slot_named.ensures.some)

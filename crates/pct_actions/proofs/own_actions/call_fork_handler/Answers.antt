@@ -1,5 +1,0 @@
-use Rattle.pct_actions.proofs.OwnChanges.{then_held}
-use Rattle.pct_actions.proofs.own_actions.call_fork_handler.Goals as goal
-
-pub returns : goal.returns
-returns c = then_held c.args.slot _ _ c.args.threads.now c.call.new.threads c.keep_fork.new.threads c.call.ensures c.keep_fork.ensures

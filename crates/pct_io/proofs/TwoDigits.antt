@@ -1,0 +1,6 @@
+-- The decimal text of a number of two digits.
+use Rattle.std.proofs.Common.{◌≡◌, ℕ, ◌+◌, ◌/◌, ◌%◌, ◌<◌, ◌≤◌, [], ◌∷◌, ◌++◌, ap, ◌∙◌, decimal, arith}
+use Rattle.std.proofs.lemmas.Fmt.{decimal_digit, decimal_step}
+
+pub decimal_two : (n : ℕ) → 10 ≤ n → n < 100 → decimal n ≡ (48 + n / 10) ∷ (48 + n % 10) ∷ []
+decimal_two n low high = decimal_step n low (omega (arith, high)) ∙ ap (λ digits. digits ++ (48 + n % 10) ∷ []) (decimal_digit (n / 10) (omega (arith, high)))

@@ -1,6 +1,0 @@
-use Rattle.pct_names.proofs.Names.{false, list_any, take, ◌≡◌}
-use Rattle.pct_transitions.specs.OtherThreads.{any_on, is_waiting_with_another}
-use Rattle.pct_transitions.proofs.other_threads.is_another_mutex_used.Given as goal
-
-abbrev pub invariant-loop-slot : goal.invariant-loop-slot
-invariant-loop-slot l = list_any (λ s. any_on (λ t. is_waiting_with_another l.cond l.mutex t.status) s.here) (take l.slot l.threads) ≡ false
