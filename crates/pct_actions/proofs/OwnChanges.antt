@@ -1,8 +1,7 @@
 -- Changes of the thread on a slot, one after another, and the changes of a transition.
 use Rattle.pct_names.proofs.Names.{[], ap, arith, at_pc, Bool, Dest, false, false≢true, Frame, frames_written, length, List, moved, None, none-some, Option}
-use Rattle.pct_names.proofs.Names.{option_and_then, option_map, own_after, OwnAction, refl, Running, same_Some, set-get_or, slice_get, slice_set, Some, Status, subst}
-use Rattle.pct_names.proofs.Names.{sym, thread_at, Transition, true, written, ℕ, ◌∙◌, ◌∷◌, ◌≡◌, ◌≤◌}
-use Rattle.std.specs.Option.{option_to_list}
+use Rattle.pct_names.proofs.Names.{option_and_then, option_map, own_after, OwnAction, refl, Running, same_Some, set-get_or, slice_set, Some, Status, subst}
+use Rattle.pct_names.proofs.Names.{sym, thread_at, Transition, true, written, ℕ, ◌∙◌, ◌∷◌, ◌≡◌}
 use Rattle.std.proofs.lemmas.List.{get_or-set_same}
 use Rattle.pct_model.specs.declared.statement.Dest.TheVariants as destination
 use Rattle.pct_model.specs.declared.transition.OwnAction.TheVariants as own_action
@@ -43,20 +42,6 @@ held_after slot f old new occupied changed =
     ∙ ap (λ (s : Slot). s.here) (get_or-set_same old slot (with_change f (slot_at old slot)) unused (within-occupied old slot occupied))
 
 -- ---- writes
-
--- at most three values, one after another
-pub three_written : {T : Type 0} (write : Dest → ℕ → T → T) (writes : List (Dest × ℕ)) (x : T) → length writes ≤ 3
-    → written write (option_to_list (slice_get writes 2)) (written write (option_to_list (slice_get writes 1)) (written write (option_to_list (slice_get writes 0)) x)) ≡ written write writes x
-three_written write [] x few = refl
-three_written write ((d, v) ∷ []) x few = refl
-three_written write ((d, v) ∷ (d2, v2) ∷ []) x few = refl
-three_written write ((d, v) ∷ (d2, v2) ∷ (d3, v3) ∷ []) x few = refl
-three_written write (w ∷ w2 ∷ w3 ∷ w4 ∷ more) x few = absurd (omega (arith, few))
-
--- none, where there is no first
-pub none_written : {T : Type 0} (write : Dest → ℕ → T → T) (writes : List (Dest × ℕ)) (x : T) → slice_get writes 0 ≡ None → written write writes x ≡ x
-none_written write [] x none = refl
-none_written write (w ∷ writes) x none = absurd (none-some w (sym none))
 
 length-frames_written : (d : Dest) (v : ℕ) (frames : List Frame) → length (frames_written d v frames) ≡ length frames
 length-frames_written (destination.Local i) v [] = refl

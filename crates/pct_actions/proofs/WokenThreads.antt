@@ -14,7 +14,7 @@ use Rattle.pct_threads.proofs.TableLemmas.{within-occupied}
 use Rattle.pct_process.specs.Standings.{standing_of, standing_on, waits_on}
 use Rattle.pct_actions.specs.SharedChanges.{woken_by, woken_from}
 
--- the standing tells whether a thread waits on a condition variable
+-- the standing says whether a thread waits on a condition variable
 pub waits_is : (c : ℕ) (s : Status) → waits_on c (standing_of s) ≡ is_waiting_on c s
 waits_is c (status.Waiting cond mutex) = refl
 waits_is c _ = refl

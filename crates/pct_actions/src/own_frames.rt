@@ -39,19 +39,18 @@ fn write_locals(threads: &mut Threads, slot: u32, writes: &UpToThree<(Dest, u32)
     requires { is_occupied_at threads.old slot ≡ true }
     ensures { threads.new ≡ on_frames slot (written frames_written writes.now) threads.old }
 {
-    if let Some(first) = writes.get(0) {
-        write_local(threads, slot, Some(first));
-        write_local(threads, slot, writes.get(1));
-        write_local(threads, slot, writes.get(2));
+    for write in writes.as_slice() {
+        write_local(threads, slot, *write);
     }
 }
 
-// A value is written to its destination, if there is one, and it is a local of the newest frame.
-fn write_local(threads: &mut Threads, slot: u32, write: Option<(Dest, u32)>)
+// A value is written to its destination, if it is a local of the newest frame.
+fn write_local(threads: &mut Threads, slot: u32, write: (Dest, u32))
     requires { is_occupied_at threads.old slot ≡ true }
-    ensures { threads.new ≡ on_frames slot (written frames_written (option_to_list write)) threads.old }
+    ensures value { threads.new ≡ on_frames slot (frames_written write.0 write.1) threads.old }
+    ensures occupied { is_occupied_at threads.new slot ≡ true }
 {
-    if let Some((Dest::Local(i), value)) = write {
+    if let (Dest::Local(i), value) = write {
         threads.set_local(slot, i, value);
     }
 }

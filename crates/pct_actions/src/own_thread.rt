@@ -67,18 +67,16 @@ fn change_onces(onces: &mut OnceControls, tid: u32, action: Option<OwnAction>)
 fn write_globals(globals: &mut Numbers, writes: &UpToThree<(Dest, u32)>)
     ensures { globals.new ≡ written globals_written writes.now globals.old }
 {
-    if let Some(first) = writes.get(0) {
-        write_global(globals, Some(first));
-        write_global(globals, writes.get(1));
-        write_global(globals, writes.get(2));
+    for write in writes.as_slice() {
+        write_global(globals, *write);
     }
 }
 
-// Writes a value to its destination, if there is one, and it is a global.
-fn write_global(globals: &mut Numbers, write: Option<(Dest, u32)>)
-    ensures { globals.new ≡ written globals_written (option_to_list write) globals.old }
+// Writes a value to its destination, if it is a global.
+fn write_global(globals: &mut Numbers, write: (Dest, u32))
+    ensures { globals.new ≡ globals_written write.0 write.1 globals.old }
 {
-    if let Some((Dest::Global(i), value)) = write {
+    if let (Dest::Global(i), value) = write {
         globals.set(i, value);
     }
 }

@@ -1,6 +1,6 @@
 //! The record of a run, in vectors that have room for it.
 
-ghost use Rattle.std.specs.Prelude.{◌≡◌, ◌+◌, ◌-◌, ◌<◌, ◌≤◌, [], ◌∷◌, ◌++◌, drop, map, vec_len, vec_capacity};
+ghost use Rattle.std.specs.Prelude.{◌≡◌, ◌+◌, ◌≤◌, ◌++◌, map, vec_len, vec_capacity};
 ghost use Rattle.pct_model.specs.Run.{event_of};
 
 use pct_io::NoMemory;
@@ -57,7 +57,7 @@ impl Trace {
         ensures { self.new ≡ record self.old { history = self.old.history ++ entry.now ∷ []; events = self.old.events ++ map (event_of entry.now) new_events.now } }
     {
         record_all(&mut self.events, entry, new_events);
-        self.history.push(*entry).unwrap();
+        self.history.push_reserved(*entry);
     }
 
     /// The entries, in order.
@@ -77,45 +77,19 @@ impl Trace {
     }
 }
 
-// Records the events of the step of an entry. There are at most three, and most often none.
+// Records the events of the step of an entry, of which there are at most three.
 #[inline(always)]
 fn record_all(events: &mut Vec<Event>, entry: &Entry, new_events: &UpToThree<What>)
     requires { vec_len events.old + 3 ≤ vec_capacity events.old }
-    ensures last { events.new.items ≡ events.old.items ++ map (event_of entry.now) new_events.now }
+    ensures items { events.new.items ≡ events.old.items ++ map (event_of entry.now) new_events.now }
     ensures few { vec_len events.new ≤ vec_len events.old + 3 }
-    ensures capacity { vec_capacity events.old ≤ vec_capacity events.new }
+    ensures capacity { vec_capacity events.new ≡ vec_capacity events.old }
 {
-    match new_events.get(0) {
-        None => {}
-        Some(_) => record_events(events, entry, new_events, 0),
-    }
-}
-
-// Records the events of the step of an entry, from an index on. There are at most three.
-#[inline(never)]
-fn record_events(events: &mut Vec<Event>, entry: &Entry, new_events: &UpToThree<What>, from: usize)
-    requires { vec_len events.old + (3 - from) ≤ vec_capacity events.old }
-    ensures last { events.new.items ≡ events.old.items ++ map (event_of entry.now) (drop from new_events.now) }
-    ensures few { vec_len events.new ≤ vec_len events.old + (3 - from) }
-    ensures capacity { vec_capacity events.old ≤ vec_capacity events.new }
-{
-    if let Some(what) = new_events.get(from) {
-        record_event(events, entry, what);
-        record_events(events, entry, new_events, from + 1);
-    }
-}
-
-// Records one event of the step of an entry.
-fn record_event(events: &mut Vec<Event>, entry: &Entry, what: What)
-    requires { vec_len events.old < vec_capacity events.old }
-    ensures last { events.new.items ≡ events.old.items ++ event_of entry.now what ∷ [] }
-    ensures capacity { vec_capacity events.old ≤ vec_capacity events.new }
-{
-    events
-        .push(Event {
+    for what in new_events.as_slice() {
+        events.push_reserved(Event {
             pid: entry.pid,
             tid: entry.tid,
-            what,
-        })
-        .unwrap();
+            what: *what,
+        });
+    }
 }

@@ -6,6 +6,6 @@ use Rattle.pct_model.specs.declared.up_to_three.Items.TheVariants as items
 -- the items, in order
 abbrev pub items_of : {T : Type 0} → Items T → List T
 items_of items.Zero = []
-items_of (items.One a) = a ∷ []
-items_of (items.Two a b) = a ∷ b ∷ []
-items_of (items.Three a b c) = a ∷ b ∷ c ∷ []
+items_of (items.One xs) = xs
+items_of (items.Two xs) = xs
+items_of (items.Three xs) = xs

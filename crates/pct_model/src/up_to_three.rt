@@ -8,9 +8,9 @@ use std::marker::Model;
 #[derive(Drop)]
 enum Items<T> {
     Zero,
-    One(T),
-    Two(T, T),
-    Three(T, T, T),
+    One([T; 1]),
+    Two([T; 2]),
+    Three([T; 3]),
 }
 
 /// A list of at most three items. In a contract it is the list.
@@ -41,7 +41,7 @@ impl<T: Copy + Drop> UpToThree<T> {
         ensures { result ≡ a ∷ [] }
     {
         UpToThree {
-            items: Items::One(a),
+            items: Items::One([a]),
         }
     }
 
@@ -50,7 +50,7 @@ impl<T: Copy + Drop> UpToThree<T> {
         ensures { result ≡ a ∷ b ∷ [] }
     {
         UpToThree {
-            items: Items::Two(a, b),
+            items: Items::Two([a, b]),
         }
     }
 
@@ -59,33 +59,30 @@ impl<T: Copy + Drop> UpToThree<T> {
         ensures { result ≡ a ∷ b ∷ c ∷ [] }
     {
         UpToThree {
-            items: Items::Three(a, b, c),
+            items: Items::Three([a, b, c]),
+        }
+    }
+
+    /// The items, in order.
+    #[inline(always)]
+    pub fn as_slice(&self) -> &[T]
+        ensures value { result.now ≡ self.now }
+        ensures few { length result.now ≤ 3 }
+    {
+        match &self.items {
+            Items::Zero => &[],
+            Items::One(items) => items,
+            Items::Two(items) => items,
+            Items::Three(items) => items,
         }
     }
 
     /// The item at an index. `None` exactly if there are not more items than that.
-    #[tactic(auto, using(std::proofs::lemmas::Option::slice_get_past))]
+    #[inline(always)]
     pub fn get(&self, index: usize) -> Option<T>
         ensures value { result ≡ slice_get self.now index }
         ensures few { length self.now ≤ 3 }
     {
-        match &self.items {
-            Items::Zero => None,
-            Items::One(a) => match index {
-                0 => Some(*a),
-                _ => None,
-            },
-            Items::Two(a, b) => match index {
-                0 => Some(*a),
-                1 => Some(*b),
-                _ => None,
-            },
-            Items::Three(a, b, c) => match index {
-                0 => Some(*a),
-                1 => Some(*b),
-                2 => Some(*c),
-                _ => None,
-            },
-        }
+        self.as_slice().get(index).copied()
     }
 }

@@ -146,7 +146,7 @@ pub fn entry_of(line: &[u8]) -> Option<Entry>
 }
 
 /// The entry in the first line of a text and the text after that line, where the entry has the choice `go`, as nearly
-/// every entry has, and is written as `write_schedule` writes it. It is `None` of every other text.
+/// every entry has, and is written as `write_schedule` writes it. Where it is `None`, `entry_in` reads the line.
 #[inline(always)]
 pub fn split_go(text: &[u8]) -> Option<(Entry, &[u8])>
     ensures { IfSome result (λ parts. IsFirstEntry text.now parts.0 parts.1.now) }
