@@ -1,5 +1,5 @@
 //! The tests of `command` and `answer` that cannot be cases of pct_cases: reads and writes that fail, words that no line has,
-//! inputs in memory, and several workers.
+//! inputs in memory, several workers, and gates.
 #![tactic(auto)]
 
 #[cfg(test)]

@@ -1,5 +1,5 @@
-//! Runs of several workers. What the gates of these tests wait for comes soon if the workers are on threads of their own; they look for it
-//! a bounded number of times.
+//! Runs of workers, and gates before their turns. What the gates of the tests with two workers wait for comes soon if the workers are on
+//! threads of their own; they look for it a bounded number of times.
 
 use pct_command::command;
 use pct_engine::Engine;
@@ -120,6 +120,68 @@ fn gate_orders_the_run(rt: HostRuntime) -> Result<(), Fail> {
         let status = command(&rt, alloc, &words, &mut source, &mut sink, &order);
         assert!(rt; status.code() == 0, "row {row_number}");
         assert!(rt; sink.written().starts_with(expected), "row {row_number}");
+    }
+    Ok(())
+}
+
+// The turns of one worker: the number of the next one, and how many calls were of another worker or another turn.
+#[derive(Drop)]
+struct Alone {
+    next: AtomicU64,
+    others: AtomicU64,
+}
+
+impl Gate for Alone {
+    fn at(&self, worker: u32, turn: u32) {
+        let next = self.next.fetch_add(1, Ordering::SeqCst);
+        if worker != 1 || u64::from(turn) != next {
+            self.others.fetch_add(1, Ordering::SeqCst);
+        }
+    }
+}
+
+// The most turns of the worker, the turn after its last one, and the report. The run of the script has seven steps: five statements, the end
+// of h and the end of the process. So an eighth turn finds that it is complete; and after three turns the number 0 makes the other four
+// steps, before which no gate is called.
+static TURNS: [(&str, u64, &[u8]); 2] = [
+    (
+        "9",
+        9,
+        b"report 1\n1.1 push h 1\n1.1 emit 5\n1.1 pop h 1 run\n1.1 emit 1\n1.1 exit 0\n1.1 process_end 0\nverdict complete\nschedule 1 10000 4 64\n1 1 1 go\n1 1 1 go\n1 1 1 go\n1 1 1 go\n1 1 1 go\n1 1 1 go\n1 1 1 go\nend 7\n",
+    ),
+    (
+        "3",
+        4,
+        b"report 1\n1.1 push h 1\n1.1 emit 5\n1.1 pop h 1 run\n1.1 emit 1\n1.1 exit 0\n1.1 process_end 0\nverdict complete\nschedule 1 10000 4 64\n1 1 1 go\n1 1 1 go\n1 1 1 go\n0 1 1 go\n0 1 1 go\n0 1 1 go\n0 1 1 go\nend 7\n",
+    ),
+];
+
+#[test]
+fn gate_is_called_for_one_worker(rt: HostRuntime) -> Result<(), Fail> {
+    let alloc = rt.alloc();
+    for row_number in 0..2 {
+        let (turns, last, expected) = TURNS[row_number];
+        let mut words = Vec::new(alloc);
+        for word in ["run", "--turns", turns] {
+            words.push(String::from_str(alloc, word)?)?;
+        }
+        let mut source = MemSource::new(alloc, PATH, 4096, &[])?;
+        let mut sink = MemSink::new(alloc, 1000, 1000, &[])?;
+        let alone = Alone {
+            next: AtomicU64::new(1),
+            others: AtomicU64::new(0),
+        };
+        let status = command(&rt, alloc, &words, &mut source, &mut sink, &alone);
+        assert!(rt; status.code() == 0, "row {row_number}");
+        assert!(rt; sink.written() == expected, "row {row_number}");
+        assert!(rt;
+            alone.next.load(Ordering::SeqCst) == last,
+            "row {row_number}"
+        );
+        assert!(rt;
+            alone.others.load(Ordering::SeqCst) == 0,
+            "row {row_number}"
+        );
     }
     Ok(())
 }

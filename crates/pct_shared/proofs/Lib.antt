@@ -13,4 +13,5 @@ pub mod Working
 pub mod Sent
 pub mod RisingNumbers
 pub mod LongerChoices
+pub mod LoneRuns
 pub mod WorkedRuns

@@ -1,26 +1,22 @@
 -- The schedules of runs that workers make: from what each worker did, the closing of the host, and the end of the run.
-use Rattle.pct_names.proofs.Names.{◌+◌, ◌++◌, ◌-◌, ◌<◌, [], All, ap, arith, Bool, cases_Bool, cases_order, Config, Entry, false, false≢true}
-use Rattle.pct_names.proofs.Names.{get_or, get_or_from_slice_get, if◌then◌else◌, inl, inr, length, length-map, List, map, refl, Run, run}
+use Rattle.pct_names.proofs.Names.{◌+◌, ◌++◌, ◌-◌, ◌<◌, [], All, ap, arith, Config, Entry}
+use Rattle.pct_names.proofs.Names.{get_or, get_or_from_slice_get, inl, inr, length, List, map, refl}
 use Rattle.pct_names.proofs.Names.{RunOptions, slice_get, slice_get-get_or, slice_get_cases, slice_get_within, slice_index_or, Some, subst}
-use Rattle.pct_names.proofs.Names.{suc, sym, true, zero, ℕ, ◌∙◌, ◌≡◌, ◌≤◌, ◌⊎◌}
-use Rattle.std.proofs.Common.{append-nil}
-use Rattle.std.proofs.lemmas.List.{get_or-map}
+use Rattle.pct_names.proofs.Names.{suc, sym, zero, ℕ, ◌∙◌, ◌≡◌, ◌≢◌, ◌≤◌}
 use Rattle.rand_pcg.specs.Lcg.{Lcg}
 use Rattle.pct_engine.specs.EngineStates.{EngineValue}
 use Rattle.pct_scheduled_run.specs.ScheduledRuns.{AreChosenBy, IsChosenAt, IsContinuedBy, IsWholeRun}
-use Rattle.pct_scheduled_run.specs.SeedSchedules.{SeedSchedule}
 use Rattle.pct_scheduled_run.specs.Streams.{draws, stream_of}
-use Rattle.pct_scheduled_run.proofs.WholeRuns.{nothing_after}
 use Rattle.pct_shared.specs.declared.view.Opening.{Opening}
 use Rattle.pct_shared.specs.declared.view.Known.{Known}
 use Rattle.pct_shared.specs.declared.workers.Worker.{Worker}
-use Rattle.pct_shared.specs.Hosts.{AreAllWorkers, AreNewWorkers, IsClosedAfter, IsClosing, IsNewWorker, IsOpening, IsWorkerOf, RiseWithin, Worked}
+use Rattle.pct_shared.specs.Hosts.{AreAllWorkers, AreNewWorkers, IsClosing, IsNewWorker, IsOpening, IsWorkerOf, RiseWithin, Worked}
 use Rattle.pct_shared.specs.Passes.{IsPassOf, SharedValue}
 use Rattle.pct_shared.specs.Schedules.{HasTurns, WorkersSchedule}
 use Rattle.pct_shared.specs.Views.{IsPrefix, opened, places}
 use Rattle.pct_shared.proofs.LongerChoices.{chosen_in_longer, numbers_after}
 use Rattle.pct_shared.proofs.OwnEntries.{prefix_trans}
-use Rattle.pct_shared.proofs.RisingNumbers.{counted_each, places-length, places_before, places_counted, rise_wider}
+use Rattle.pct_shared.proofs.RisingNumbers.{places_before, rise_wider}
 
 -- ---- what the workers did
 
@@ -128,99 +124,6 @@ module _ (host : SharedValue) (seed turns number : ℕ) (w : Worker) (history : 
         (prefix_trans w.pass.view.known.seen history entries closing.seen front) (done.worked.took.each k d within).within (made_chosen k d within);
   }
 
--- ---- a lone worker
-
--- the only worker of a host that was opened without entries, which has seen the history at the closing
-module _ (host : SharedValue) (seed turns : ℕ) (w : Worker) (history : List Entry) (none : (opened host.opening).history ≡ []) (done : HasWorked host seed turns 1 w) (closing : IsWorkerOf host.opening history w)
-    (lone : host.opening.workers ≡ 1) (seen_is : w.pass.view.known.seen ≡ history) (mine : All (λ e. e.worker ≡ 1) history) where
-  lone_is : done.before.pass.view.opening.workers ≡ 1
-  lone_is = ap (λ (o : Opening). o.workers) done.new.pass_of.opening ∙ lone
-
-  -- it made all entries
-  lone_made : length done.worked.took.at ≡ length history
-  lone_made =
-      sym (length-map done.worked.took.at (λ (pair : ℕ × ℕ). pair.0))
-      ∙ ap (λ (l : List ℕ). length l) (sym (made_places host seed turns 1 w history none done closing))
-      ∙ places-length 1 0 history mine
-
-  lone_place : (k : ℕ) (d : ℕ × ℕ) → k < length history → (get_or done.worked.took.at k d).0 ≡ k
-  lone_place k d within =
-      let counted : get_or (places 1 history) k 0 ≡ 0 + k = counted_each 0 (places 1 history) k 0 (places_counted 1 0 history mine) (omega (arith, within, places-length 1 0 history mine)) in
-      let same : get_or (map (λ (pair : ℕ × ℕ). pair.0) done.worked.took.at) k 0 ≡ (get_or done.worked.took.at k d).0 = get_or-map (λ (pair : ℕ × ℕ). pair.0) done.worked.took.at k d 0 (omega (arith, within, lone_made)) in
-      let told : get_or (places 1 history) k 0 ≡ get_or (map (λ (pair : ℕ × ℕ). pair.0) done.worked.took.at) k 0 = ap (λ (l : List ℕ). get_or l k 0) (made_places host seed turns 1 w history none done closing) in
-      omega (arith, counted, same, told)
-
-  lone_take : (k : ℕ) (d : ℕ × ℕ) → k < length history → (get_or done.worked.took.at k d).1 - 1 ≡ k
-  lone_take k d within =
-      let takes : List ℕ = map (λ (pair : ℕ × ℕ). pair.1) done.worked.took.at in
-      let as_many : length takes ≡ length done.worked.took.at = length-map done.worked.took.at (λ (pair : ℕ × ℕ). pair.1) in
-      let counted : get_or takes k 0 ≡ suc done.before.pass.view.takes + k = counted_each (suc done.before.pass.view.takes) takes k 0 (done.worked.took.alone lone_is).1 (omega (arith, within, lone_made, as_many)) in
-      let same : get_or takes k 0 ≡ (get_or done.worked.took.at k d).1 = get_or-map (λ (pair : ℕ × ℕ). pair.1) done.worked.took.at k d 0 (omega (arith, within, lone_made)) in
-      omega (arith, counted, same, done.new.takes)
-
-  -- the entry at each place was chosen by the words of the turn with this index
-  lone_chosen : (k : ℕ) → k < length history → IsChosenAt (draws (stream_of seed 1)) 1 (opened host.opening).script (opened host.opening).config history k k
-  lone_chosen k within =
-      let pair : ℕ × ℕ = get_or done.worked.took.at k (0, 0) in
-      subst (λ (entries : List Entry). IsChosenAt (draws (stream_of seed 1)) 1 (opened host.opening).script (opened host.opening).config entries k k) seen_is
-      (subst (λ (place : ℕ). IsChosenAt (draws (stream_of seed 1)) 1 (opened host.opening).script (opened host.opening).config w.pass.view.known.seen place k) (lone_place k (0, 0) within)
-      (subst (λ (turn : ℕ). IsChosenAt (draws (stream_of seed 1)) 1 (opened host.opening).script (opened host.opening).config w.pass.view.known.seen pair.0 turn) (lone_take k (0, 0) within)
-      (made_chosen host seed turns 1 w history none done closing k (0, 0) (omega (arith, within, lone_made)))))
-
-  -- if its last turn found the run closed, nothing comes after the history
-  lone_closed : (rest : List Entry) (end : Run) → run (opened host.opening).script (opened host.opening).config (history ++ rest) ≡ Some end → done.worked.over ≡ true → rest ≡ []
-  lone_closed rest end is over =
-      let closed : IsClosedAfter host.opening history = subst (λ (x : Opening × List Entry). IsClosedAfter x.0 x.1) (ap (λ (o : Opening). (o, w.pass.view.known.seen)) done.new.pass_of.opening ∙ ap (λ (entries : List Entry). (host.opening, entries)) seen_is) (done.worked.closed over) in
-      nothing_after (opened host.opening).script (opened host.opening).config history rest closed.after end closed.is_run closed.closed is
-
-  -- else it took all its turns, and made an entry at each
-  lone_full : done.worked.over ≡ false → length history ≡ turns
-  lone_full going =
-      let all : turns ≤ done.worked.taken = elim (cases_order done.worked.taken turns) [
-        | inl same ↦ omega (arith, same)
-        | inr (inl fewer) ↦ absurd (false≢true (sym going ∙ done.worked.all_turns fewer))
-        | inr (inr more) ↦ omega (arith, more)
-      ] in
-      let last : ◌≡◌ {A = ℕ} (if done.worked.over then 1 else 0) 0 = ap (λ (b : Bool). if b then 1 else 0) going in
-      omega (arith, all, last, done.worked.few, done.worked.counts, (done.worked.took.alone lone_is).0, lone_made)
-
-  lone_ends : (rest : List Entry) (end : Run) → run (opened host.opening).script (opened host.opening).config (history ++ rest) ≡ Some end → (length history ≡ turns) ⊎ (rest ≡ [])
-  lone_ends rest end is =
-      elim (cases_Bool done.worked.over) [
-        | inl over ↦ inr (lone_closed rest end is over)
-        | inr going ↦ inl (lone_full going)
-      ]
-
-  -- an entry past all turns comes after the history, which then has all turns
-  lone_past : (rest : List Entry) (k : ℕ) → (length history ≡ turns) ⊎ (rest ≡ []) → turns + k < length (history ++ rest) → length history ≡ turns
-  lone_past rest k (inl full) within = full
-  lone_past rest k (inr ended) within =
-      let longer : length (history ++ rest) ≡ length history = ap (λ (l : List Entry). length (history ++ l)) ended ∙ ap (λ (l : List Entry). length l) (append-nil history) in
-      let few = few_turns host seed turns 1 w history none done closing in
-      absurd (omega (arith, within, longer, few, lone_made))
-
-  -- an entry within the turns stands in the history
-  lone_within : (rest : List Entry) (k : ℕ) → (length history ≡ turns) ⊎ (rest ≡ []) → k < length (history ++ rest) → k < turns → k < length history
-  lone_within rest k (inl full) inside early = omega (arith, full, early)
-  lone_within rest k (inr ended) inside early =
-      let longer : length (history ++ rest) ≡ length history = ap (λ (l : List Entry). length (history ++ l)) ended ∙ ap (λ (l : List Entry). length l) (append-nil history) in
-      omega (arith, inside, longer)
-
-  -- a run that goes on under the number 0 has the schedule of the seed
-  lone_schedule : (rest : List Entry) → IsWholeRun (opened host.opening).script (opened host.opening).config (history ++ rest) → AreChosenBy (draws (stream_of seed 0)) 0 (opened host.opening).script (opened host.opening).config (length history) (history ++ rest)
-      → SeedSchedule (opened host.opening).script (opened host.opening).config seed turns (history ++ rest)
-  lone_schedule rest whole choices =
-      let ends = lone_ends rest whole.after whole.is_run in
-      record {
-        whole = whole;
-        worked = λ k inside early.
-            let before = lone_within rest k ends inside early in
-            chosen_in_longer (draws (stream_of seed 1)) 1 (opened host.opening).script (opened host.opening).config history (history ++ rest) k k (record { rest = rest; all_is = refl }) before (lone_chosen k before);
-        finished = λ k inside.
-            let full = lone_past rest k ends inside in
-            subst (λ (n : ℕ). IsChosenAt (draws (stream_of seed 0)) 0 (opened host.opening).script (opened host.opening).config (history ++ rest) (n + k) k) full (choices k (omega (arith, full, inside)));
-      }
-
 -- ---- the schedule
 
 -- the entries of a host that was opened without entries have the numbers of its workers
@@ -240,22 +143,11 @@ module _ (host : SharedValue) (seed turns : ℕ) (workers : List Worker) (engine
       worker_turns host seed turns number found.1 engine.history none found.3 (closing_at found.0 found.1 found.2) (engine.history ++ rest) (record { rest = rest; all_is = refl })
       (places_before number 0 engine.history rest (λ zero_is. absurd (omega (arith, some, zero_is))) others)
 
-  lone_run : (rest : List Entry) → IsWholeRun (opened host.opening).script (opened host.opening).config (engine.history ++ rest) → AreChosenBy (draws (stream_of seed 0)) 0 (opened host.opening).script (opened host.opening).config (length engine.history) (engine.history ++ rest)
-      → host.opening.workers ≡ 1 → SeedSchedule (opened host.opening).script (opened host.opening).config seed turns (engine.history ++ rest)
-  lone_run rest whole choices lone =
-      let w = closing.longest in
-      let first : closing.index ≡ 0 = omega (arith, slice_get_within workers closing.index w closing.in_workers, count_is, lone) in
-      let worked : HasWorked host seed turns 1 w = subst (λ (index : ℕ). HasWorked host seed turns (suc index) w) first (done closing.index w closing.in_workers) in
-      let mine : All (λ e. e.worker ≡ 1) engine.history = λ k d within.
-      let number = closing_numbers host.opening workers engine none closing k d within in
-      omega (arith, number.0, number.1, lone) in
-      lone_schedule host seed turns w engine.history none worked (closing_at closing.index w closing.in_workers) lone closing.history_is mine rest whole choices
-
   -- the schedule of the run that the number 0 ended
-  workers_schedule : (budgets : Config) → (opened host.opening).config ≡ budgets → (rest : List Entry) → IsWholeRun (opened host.opening).script (opened host.opening).config (engine.history ++ rest)
+  workers_schedule : (budgets : Config) → (opened host.opening).config ≡ budgets → host.opening.workers ≢ 1 → (rest : List Entry) → IsWholeRun (opened host.opening).script (opened host.opening).config (engine.history ++ rest)
       → AreChosenBy (draws (stream_of seed 0)) 0 (opened host.opening).script (opened host.opening).config (length engine.history) (engine.history ++ rest)
       → WorkersSchedule (opened host.opening).script (record { config = budgets; seed = seed; workers = host.opening.workers; turns = turns }) (engine.history ++ rest)
-  workers_schedule budgets config_is rest whole choices =
+  workers_schedule budgets config_is several rest whole choices =
       let others : All (λ e. e.worker ≡ 0) rest = numbers_after (draws (stream_of seed 0)) 0 (opened host.opening).script (opened host.opening).config engine.history rest whole.after whole.is_run choices in
       subst (λ (config : Config). WorkersSchedule (opened host.opening).script (record { config = config; seed = seed; workers = host.opening.workers; turns = turns }) (engine.history ++ rest)) config_is
       (record {
@@ -267,15 +159,15 @@ module _ (host : SharedValue) (seed turns : ℕ) (workers : List Worker) (engine
         number_0 = others;
         each = each_turns rest others;
         finished = choices;
-        lone = lone_run rest whole choices;
+        lone = λ lone. absurd (several lone);
       })
 
--- a run that workers made on a host, and the number 0 ended
-pub schedule_of_workers : (opening made : EngineValue) (options : RunOptions) (host : SharedValue) (before after : List Worker) (engine : EngineValue) → opening.config ≡ options.config → opening.history ≡ [] → IsOpening opening options.workers options.seed host before → length after ≡ length before
+-- a run that several workers made on a host, and the number 0 ended
+pub schedule_of_workers : (opening made : EngineValue) (options : RunOptions) (host : SharedValue) (before after : List Worker) (engine : EngineValue) → opening.config ≡ options.config → opening.history ≡ [] → options.workers ≢ 1 → IsOpening opening options.workers options.seed host before → length after ≡ length before
     → ((index : ℕ) (d : Worker) → index < length before → Worked options.turns (slice_index_or before index d) (slice_index_or after index d)) → IsClosing host.opening after engine
     → made ≡ record engine { history = made.history } → IsContinuedBy (draws (stream_of options.seed 0)) 0 engine.script engine.config engine.history made.history
     → (made.script ≡ opening.script) × (made.config ≡ opening.config) × WorkersSchedule opening.script options made.history
-schedule_of_workers opening made options host before after engine config_is none opened_by as_many each closing same ended =
+schedule_of_workers opening made options host before after engine config_is none several opened_by as_many each closing same ended =
     let script_same : engine.script ≡ (opened host.opening).script = ap (λ (x : EngineValue). x.script) closing.engine_is in
     let config_same : engine.config ≡ (opened host.opening).config = ap (λ (x : EngineValue). x.config) closing.engine_is in
     let continued : IsContinuedBy (draws (stream_of options.seed 0)) 0 (opened host.opening).script (opened host.opening).config engine.history made.history = subst (λ (x : EngineValue). IsContinuedBy (draws (stream_of options.seed 0)) 0 x.script x.config engine.history made.history) closing.engine_is ended in
@@ -285,7 +177,8 @@ schedule_of_workers opening made options host before after engine config_is none
     subst (AreChosenBy (draws (stream_of options.seed 0)) 0 (opened host.opening).script (opened host.opening).config (length engine.history)) continued.begins continued.choices in
     let schedule : WorkersSchedule (opened host.opening).script (record { config = options.config; seed = options.seed; workers = host.opening.workers; turns = options.turns }) entries =
     workers_schedule host options.seed options.turns after engine (ap (λ (x : EngineValue). x.history) opened_by.engine_is ∙ none) (as_many ∙ opened_by.new.count_is ∙ sym opened_by.count_is)
-    (worked_by host options.workers options.seed options.turns before after opened_by.new as_many each) closing options.config (ap (λ (x : EngineValue). x.config) opened_by.engine_is ∙ config_is) continued.rest whole choices in
+    (worked_by host options.workers options.seed options.turns before after opened_by.new as_many each) closing options.config (ap (λ (x : EngineValue). x.config) opened_by.engine_is ∙ config_is)
+    (λ lone. several (sym opened_by.count_is ∙ lone)) continued.rest whole choices in
     let counted : WorkersSchedule (opened host.opening).script options entries = subst (λ (count : ℕ). WorkersSchedule (opened host.opening).script (record { config = options.config; seed = options.seed; workers = count; turns = options.turns }) entries) opened_by.count_is schedule in
     let told : WorkersSchedule opening.script options entries = subst (λ (x : EngineValue). WorkersSchedule x.script options entries) opened_by.engine_is counted in (
       ap (λ (x : EngineValue). x.script) same ∙ script_same ∙ ap (λ (x : EngineValue). x.script) opened_by.engine_is,

@@ -41,5 +41,5 @@ returns g c =
     let closing = subst (λ (workers : List Worker). IsClosing c.in_ok-shared.shared.opening workers closed) (with_items_is c.in_ok-shared.workers after (c.run_workers.ensures.count ∙ c.as_mut_slice.ensures.len)) c.close-made.ensures in
     let ended = subst (λ (words : Lcg). IsContinuedBy (draws words) 0 closed.script closed.config closed.history c.continue_run.new.engine.history) c.stream_of.ensures c.continue_run.ensures.run in
     schedule_of_workers c.args.engine c.continue_run.new.engine c.args.options c.in_ok-shared.shared before after closed
-    c.requires.0 c.requires.1 c.in_ok-shared.ensures (as_many before shown after c.as_mut_slice.ensures.value c.run_workers.ensures.count)
+    c.requires.0 c.requires.1 c.if-options-eq-LONE_WORKER.false c.in_ok-shared.ensures (as_many before shown after c.as_mut_slice.ensures.value c.run_workers.ensures.count)
     (each c.args.options.turns before shown after c.as_mut_slice.ensures.value c.run_workers.ensures.each) closing c.continue_run.ensures.same ended
