@@ -1,11 +1,11 @@
 -- The sets of all processes follow them through a step.
-use Rattle.pct_names.proofs.Names.{◌<◌, ap, Bool, cases_eq, cond, false, inl, inr, length, List, map, None, none-some, Option, option_map, refl, same_Some}
+use Rattle.pct_names.proofs.Names.{◌+◌, ◌<◌, ap, arith, Bool, cases_eq, cond, false, inl, inr, length, List, map, None, none-some, Option, option_map, refl, same_Some}
 use Rattle.pct_names.proofs.Names.{Script, slice_get, slice_get-map, slice_get_within, Some, subst, sym, Transition, true, ℕ, ◌∙◌, ◌≡◌, ◌≢◌}
 use Rattle.pct_set.specs.Slots.{slots_where}
 use Rattle.pct_engine_laws.specs.Seen.{SeenProcess, process_seen, is_live_seen}
 use Rattle.pct_machine.specs.ListChanges.{process_moved}
 use Rattle.pct_machine.specs.ProcessSteps.{CanStep, EachCanStep}
-use Rattle.pct_ready_sets.specs.ReadyConditions.{Follows, FollowsAt, FollowAll, touches}
+use Rattle.pct_ready_sets.specs.ReadyConditions.{AreFresh, Follows, FollowsAt, FollowAll, IsFreshAt, touches}
 use Rattle.pct_ready_sets.specs.ReadyGroups.{ReadyValue, with_stale, all_stale}
 use Rattle.pct_ready_sets.proofs.FollowingSets.{all_stale_follow, with_stale_follow, step_follow}
 
@@ -52,4 +52,12 @@ follow_refreshed script timeouts ps before after place p here follows others fol
           let is : p ≡ q = same_Some p q (sym here ∙ ap (slice_get ps) (sym same) ∙ there) in
           subst (λ (x : SeenProcess). FollowsAt script timeouts x i after) is (subst (λ (k : ℕ). FollowsAt script timeouts p k after) (sym same) follows)
       | inr other ↦ λ v at. follow i q there v (sym (others i other) ∙ at)
+    ]
+
+-- then no slot is stale on one place more
+pub fresh_refreshed : (before after : List ReadyValue) (place : ℕ) → IsFreshAt place after → ((i : ℕ) → i ≢ place → slice_get after i ≡ slice_get before i) → AreFresh place before → AreFresh (place + 1) after
+fresh_refreshed before after place here others fresh = λ i less.
+    elim (cases_eq i place) [
+      | inl same ↦ subst (λ (k : ℕ). IsFreshAt k after) (sym same) here
+      | inr other ↦ λ v at. fresh i (omega (arith, less, other)) v (sym (others i other) ∙ at)
     ]

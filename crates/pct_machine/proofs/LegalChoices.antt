@@ -1,29 +1,15 @@
 -- The entry of a thread by a choice that it has is legal.
-use Rattle.pct_names.proofs.Names.{◌%◌, [], Alt, and_from, ap, cond, Config, Entry, false, Family, has_timeouts, is_some, item_at, length}
-use Rattle.pct_names.proofs.Names.{List, list_any, nat_eq, None, none-some, not, offers, option_and_then, or_left, or_right, refl}
-use Rattle.pct_names.proofs.Names.{same_choice, same_Some, Script, slice_get, Some, suc, sym, Thread, true, zero, ℕ, ◌∙◌, ◌∷◌, ◌≡◌}
+use Rattle.pct_names.proofs.Names.{◌%◌, Alt, and_from, ap, cond, Config, Entry, false, Family, has_timeouts, is_some, item_at, length}
+use Rattle.pct_names.proofs.Names.{List, nat_eq, None, not, option_and_then, refl}
+use Rattle.pct_names.proofs.Names.{Script, slice_get, Some, sym, Thread, true, ℕ, ◌∙◌, ◌≡◌}
 use Rattle.std.proofs.lemmas.Bool.{eq-eqb}
-use Rattle.pct_model.specs.declared.schedule.Alt.TheVariants as alt
 use Rattle.pct_engine_laws.specs.Seen.{SeenProcess, is_live_seen}
 use Rattle.pct_engine_laws.specs.SeenSteps.{thread_with, choices_in, transition_in, if_offered_in}
 use Rattle.pct_process.specs.ProcessViews.{thread_on_slot}
+use Rattle.pct_transitions.proofs.NumberedChoices.{offers-item}
 use Rattle.pct_machine.specs.ProcessSteps.{CanStep, taken_in}
 use Rattle.pct_machine.specs.Candidates.{takes_in}
 use Rattle.pct_machine.proofs.HeldSlots.{held_by}
-
-same_choice-self : (c : Alt) → same_choice c c ≡ true
-same_choice-self alt.Go = refl
-same_choice-self (alt.Act n) = eq-eqb n n refl
-same_choice-self (alt.New n) = eq-eqb n n refl
-same_choice-self (alt.Pick n) = eq-eqb n n refl
-same_choice-self (alt.Dtor n) = eq-eqb n n refl
-same_choice-self alt.Expire = refl
-
--- a choice of a list is among its choices
-offers-item : (choices : List Alt) (n : ℕ) (c : Alt) → slice_get choices n ≡ Some c → offers choices c ≡ true
-offers-item [] n c at = absurd (none-some c at)
-offers-item (x ∷ rest) zero c at = or_left (same_choice c x) (list_any (same_choice c) rest) (ap (same_choice c) (same_Some x c at) ∙ same_choice-self c)
-offers-item (x ∷ rest) (suc n) c at = or_right (same_choice c x) (list_any (same_choice c) rest) (offers-item rest n c at)
 
 module _ (script : Script) (config : Config) (family : Family) (p : SeenProcess) (k worker b : ℕ) (t : Thread) (can : CanStep config.slots p) (at : thread_on_slot p.slots k ≡ Some t) (live : is_some p.ended ≡ false) where
   abbrev choices : ℕ → List Alt

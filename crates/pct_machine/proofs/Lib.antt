@@ -13,6 +13,7 @@ pub mod ReadySlots
 mod LegalChoices
 mod Picks
 mod ReadyProcesses
+mod OnlyThreads
 mod ReadPlaces
 mod FollowingLists
 pub mod ConfigLimits

@@ -143,13 +143,16 @@ module _ (script : Script) (config : Config) (v : Seen) (number : ℕ) (can : Al
       ∙ ap (λ (n : ℕ). Here (slice_get all (number % n))) (zero-add (length all))
 
   -- the entry that is chosen
-  pub chosen_is : (c : Option Candidate) (worker choice : ℕ) → Here c ≡ pick_after 0 number all → option_and_then (entry_for worker choice) c ≡ seen_chosen script config v worker number choice
+  pub chosen_among : (worker choice : ℕ) → option_and_then (entry_for worker choice) (item_at all number) ≡ seen_chosen script config v worker number choice
   unfolding seen_candidates
+  chosen_among worker choice =
+      ap (λ (cs : List Candidate). option_and_then (entry_for worker choice) (item_at cs number)) (among_sized script (has_timeouts config.format) config.slots (family_in v) v.processes (λ i p at. (can.each i p at).all))
+      ∙ sym (ap (λ b. cond (not b) (option_and_then (entry_for worker choice) (item_at (seen_candidates script config v) number)) None) running)
+
+  pub chosen_is : (c : Option Candidate) (worker choice : ℕ) → Here c ≡ pick_after 0 number all → option_and_then (entry_for worker choice) c ≡ seen_chosen script config v worker number choice
   chosen_is c worker choice is =
       let same : c ≡ item_at all number = cc (whole (Here c) is) in
-      ap (option_and_then (entry_for worker choice)) same
-      ∙ ap (λ (cs : List Candidate). option_and_then (entry_for worker choice) (item_at cs number)) (among_sized script (has_timeouts config.format) config.slots (family_in v) v.processes (λ i p at. (can.each i p at).all))
-      ∙ sym (ap (λ b. cond (not b) (option_and_then (entry_for worker choice) (item_at (seen_candidates script config v) number)) None) running)
+      ap (option_and_then (entry_for worker choice)) same ∙ chosen_among worker choice
 
   -- it is one of the candidates
   pub never_before : (i : ℕ) → Before i ≡ pick_after 0 number all → ⊥

@@ -1,11 +1,12 @@
 -- The choice of the scheduler, of one process after the other.
-use Rattle.std.specs.Prelude.{◌≡◌, ℕ, ◌+◌, ◌-◌, ◌%◌, Bool, true, false, ◌&&◌, if◌then◌else◌, List, length, map, flat_map, Option, Some, None, is_some, nat_lt, slice_get, option_map, option_and_then}
+use Rattle.std.specs.Prelude.{◌≡◌, ℕ, ◌+◌, ◌-◌, ◌%◌, Bool, true, false, ◌&&◌, if◌then◌else◌, List, [], ◌∷◌, length, map, flat_map, Option, Some, None, is_some, nat_lt, slice_get, option_map, option_and_then}
 use Rattle.pct_model.specs.declared.script.Script.{Script}
 use Rattle.pct_model.specs.declared.schedule.Config.{Config}
 use Rattle.pct_model.specs.declared.schedule.Entry.{Entry}
 use Rattle.pct_model.specs.Chosen.{Candidate}
 use Rattle.pct_model.specs.OtherProcesses.{Family}
-use Rattle.pct_engine_laws.specs.Seen.{SeenProcess, is_live_seen}
+use Rattle.pct_model.specs.World.{Thread}
+use Rattle.pct_engine_laws.specs.Seen.{SeenProcess, is_live_seen, threads_on}
 use Rattle.pct_engine_laws.specs.SeenSteps.{ready_in, candidate_in}
 use Rattle.pct_process.specs.ProcessViews.{thread_on_slot}
 use Rattle.pct_machine.specs.declared.scheduler.Seat.{Seat}
@@ -40,6 +41,20 @@ pub record IsSeat (ps : List SeenProcess) (seat : Seat) : Type 0 where
   pub here : slice_get ps seat.place ≡ Some process
   pub live : is_some process.ended ≡ false
   pub held : is_some (thread_on_slot process.slots seat.slot) ≡ true
+
+-- the slot of the only thread of a process that has not ended
+pub record IsOnlySlot (p : SeenProcess) (slot : ℕ) : Type 0 where
+  pub live : is_some p.ended ≡ false
+  pub thread : Thread
+  pub held : thread_on_slot p.slots slot ≡ Some thread
+  pub single : threads_on p.slots ≡ thread ∷ []
+
+-- the seat of the only thread of the only process, which has not ended
+pub record IsOnlySeat (ps : List SeenProcess) (seat : Seat) : Type 0 where
+  pub process : SeenProcess
+  pub alone : ps ≡ process ∷ []
+  pub first : seat.place ≡ 0
+  pub only : IsOnlySlot process seat.slot
 
 -- the thread on a seat, as a candidate
 abbrev pub candidate_on : Script → Bool → (ℕ → Family) → List SeenProcess → Seat → Option Candidate

@@ -44,7 +44,7 @@ impl Machine {
     ghost use Rattle.pct_machine.specs.MachineSteps.{legal_transition, woken_in};
     ghost use Rattle.pct_model.specs.Formats.{has_timeouts};
     ghost use Rattle.pct_machine.specs.ShownProcesses.{ShowsIfSome};
-    ghost use Rattle.pct_ready_sets.specs.ReadyConditions.{FollowAll};
+    ghost use Rattle.pct_ready_sets.specs.ReadyConditions.{AreFresh, FollowAll};
 
     /// The state before the first step, with 1 to 64 thread slots. `NoMemory` is returned if the tables of eight processes do not fit into
     /// memory: no other call takes memory.
@@ -88,7 +88,8 @@ impl Machine {
 
     /// Makes the step of the entry that a worker's numbers choose, and writes the transition that it takes to `transition`: one number
     /// chooses a thread that is ready, the other one of its choices. The entry is legal. `None` exactly if the run was stopped or no thread
-    /// is ready, and then the machine is as it was. The slots that were stale are looked at again.
+    /// is ready, and then the machine is as it was. The slots that were stale are looked at again, unless there is one process with one
+    /// thread.
     pub fn advance(
         &mut self,
         program: &Program,
@@ -133,8 +134,7 @@ impl Machine {
         if self.stop.is_some() {
             return None;
         }
-        self.refresh(program, sets);
-        let seat = self.seat(program, sets, draw.thread)?;
+        let seat = self.find_seat(program, sets, draw.thread)?;
         let mut steps = Steps::<L>::new(blank);
         let entry = self
             .processes
@@ -207,6 +207,27 @@ impl Machine {
         self.processes.entry_on(program, seat, draw)
     }
 
+    // The seat of a thread, where the run was not stopped: of the only thread of the only process, whether it is ready or not; where there
+    // are others, of the thread that a number chooses among those that are ready, or `None` if none is. The sets are needed only then, and
+    // the slots that are stale are looked at again before.
+    #[inline(always)]
+    fn find_seat(&self, program: &Program, sets: &mut AllReadySets, number: u32) -> Option<Seat>
+        requires can { AllCanStep program.now.config.slots self.now.processes self.now.made }
+        requires follow { FollowAll program.now.script (has_timeouts program.now.config.format) self.now.processes sets.old }
+        requires running { is_some self.now.stop ≡ false }
+        ensures value { (worker choice : ℕ) → option_and_then (entry_for worker choice) (option_and_then (candidate_on program.now.script (has_timeouts program.now.config.format) (family_in self.now) self.now.processes) result) ≡ seen_chosen program.now.script program.now.config self.now worker number choice }
+        ensures seat { IfSome result (IsSeat self.now.processes) }
+        ensures follow { FollowAll program.now.script (has_timeouts program.now.config.format) self.now.processes sets.new }
+    {
+        match self.processes.only_seat() {
+            Some(seat) => Some(seat),
+            None => {
+                self.refresh(program, sets);
+                self.seat(program, sets, number)
+            }
+        }
+    }
+
     // The seat of the thread that a number chooses among those that are ready, where the run was not stopped. `None` if no thread is ready.
     #[inline(always)]
     fn seat(&self, program: &Program, sets: &AllReadySets, number: u32) -> Option<Seat>
@@ -224,10 +245,11 @@ impl Machine {
         }
     }
 
-    /// Looks again at the slots that are stale.
+    /// Looks again at the slots of each process that are stale. None of them is stale afterwards.
     pub fn refresh(&self, program: &Program, sets: &mut AllReadySets)
         requires { FollowAll program.now.script (has_timeouts program.now.config.format) self.now.processes sets.old }
-        ensures { FollowAll program.now.script (has_timeouts program.now.config.format) self.now.processes sets.new }
+        ensures follow { FollowAll program.now.script (has_timeouts program.now.config.format) self.now.processes sets.new }
+        ensures fresh { AreFresh (length self.now.processes) sets.new }
     {
         let places = self.processes.as_slice();
         for index in 0..places.len() {

@@ -44,11 +44,11 @@ impl Place {
     ghost use Rattle.pct_process.specs.ProcessViews.{thread_on_slot};
     ghost use Rattle.pct_model.specs.declared.transition.ProcessAction.TheVariants as process_action;
     ghost use Rattle.pct_actions.specs.ProcessChanges.{woken};
-    ghost use Rattle.pct_machine.specs.Candidates.{takes_in};
+    ghost use Rattle.pct_machine.specs.Candidates.{takes_in, IsOnlySlot};
     ghost use Rattle.pct_machine.specs.ListChanges.{process_changed, process_after_entry};
     ghost use Rattle.pct_machine.specs.ProcessSteps.{CanStep, HasThread, taken_in, some_if};
     ghost use Rattle.pct_machine.specs.ShownProcesses.{ShowsProcess};
-    ghost use Rattle.pct_ready_sets.specs.ReadyConditions.{Follows, FollowsAt};
+    ghost use Rattle.pct_ready_sets.specs.ReadyConditions.{Follows, FollowsAt, IsFreshAt};
 
     /// The first process before the first step, with 1 to 64 thread slots. `NoMemory` is returned if its tables do not fit into memory.
     pub fn first(alloc: Global, script: &Script, slots: u32) -> Result<Place, NoMemory>
@@ -128,11 +128,26 @@ impl Place {
         ready_by_sets(around, &self.state, sets)
     }
 
-    /// Looks again at the slots that are stale, where this process is on a place.
+    /// The slot of the only thread of the process. `None` if the process has ended, or has no thread or several.
+    #[inline(always)]
+    pub fn only_slot(&self) -> Option<u32>
+        ensures { IfSome result (IsOnlySlot self.now) }
+    {
+        // A process has at most 64 slots, with at most one thread on each.
+        let _count = self.state.slot_count();
+        let occupied = self.state.occupied();
+        if self.has_ended() || occupied.len() != 1 {
+            return None;
+        }
+        occupied.nth(0)
+    }
+
+    /// Looks again at the slots that are stale, where this process is on a place. None is stale afterwards.
     #[inline(always)]
     pub fn refresh(&self, program: &Program, sets: &mut AllReadySets, place: usize)
         requires { FollowsAt program.now.script (has_timeouts program.now.config.format) self.now place sets.old }
         ensures here { FollowsAt program.now.script (has_timeouts program.now.config.format) self.now place sets.new }
+        ensures fresh { IsFreshAt place sets.new }
         ensures others { (i : ℕ) → i ≢ place → slice_get sets.new i ≡ slice_get sets.old i }
     {
         sets.refresh(place, program, &self.state);

@@ -53,7 +53,7 @@ impl Processes {
     ghost use Rattle.pct_engine_laws.specs.Seen.{seen_process, is_live_seen};
     ghost use Rattle.pct_process.specs.FamilyViews.{other_processes};
     ghost use Rattle.pct_machine.specs.Places.{RiseWithin, families};
-    ghost use Rattle.pct_machine.specs.Candidates.{candidate_on, IsSeat};
+    ghost use Rattle.pct_machine.specs.Candidates.{candidate_on, IsSeat, IsOnlySeat};
     ghost use Rattle.pct_machine.specs.ProcessSteps.{AllCanStep, some_if};
     ghost use Rattle.pct_machine.specs.MachineSteps.{woken_in};
     ghost use Rattle.pct_machine.specs.ListChanges.{taken_among, list_moved, list_after_entry, process_changed, list_changed, list_with_child, ChildFits, ChangeFits};
@@ -119,6 +119,19 @@ impl Processes {
         };
         let around = surroundings(program, &self.relatives, self.made, entry.pid);
         self.places[index].step(around, entry, transition, steps)
+    }
+
+    /// The seat of the only thread of the only process. `None` if there is another process, or if the process has ended, or has no thread
+    /// or several.
+    #[inline(always)]
+    pub fn only_seat(&self) -> Option<Seat>
+        ensures { IfSome result (IsOnlySeat self.now.processes) }
+    {
+        if self.live != 1 {
+            return None;
+        }
+        let slot = self.places[0].only_slot()?;
+        Some(Seat { place: 0, slot })
     }
 
     /// The entry that a worker's numbers choose for the thread on a seat. `None` if the thread has no choice.

@@ -1,9 +1,10 @@
 -- The threads that are ready, slot by slot.
 use Rattle.pct_names.proofs.Names.{◌+◌, ◌++◌, ◌<◌, [], All, ap, arith, Bool, cases_lt, cond, drop, drop_all, drop_more, false, false≢true}
 use Rattle.pct_names.proofs.Names.{filter, get_or_past, inl, inr, is_some, length, List, map, None, Option, option_map_or, range_with_len}
-use Rattle.pct_names.proofs.Names.{refl, Some, suc, sym, Thread, true, zero, ℕ, ◌∙◌, ◌∷◌, ◌≡◌, ◌≤◌}
+use Rattle.pct_names.proofs.Names.{refl, slice_get, Some, suc, sym, Thread, true, zero, ℕ, ◌∙◌, ◌∷◌, ◌≡◌, ◌≤◌}
 use Rattle.std.specs.Option.{option_to_list}
-use Rattle.pct_set.specs.Slots.{slots_where}
+use Rattle.pct_set.specs.Slots.{slots_where, with_slot, without_slot}
+use Rattle.pct_set.proofs.SlotScans.{Scans, scan_ended, scan_more, scan_there}
 use Rattle.pct_engine_laws.specs.Seen.{SeenSlot, threads_on}
 use Rattle.pct_process.specs.ProcessViews.{first_of, thread_on_slot}
 
@@ -21,6 +22,10 @@ module _ (ready : Thread → Bool) (slots : List SeenSlot) where
   -- the thread on a slot is ready; a free slot has no thread
   abbrev pub is_ready_on : ℕ → Bool
   is_ready_on k = option_map_or ready (thread_on_slot slots k) false
+
+  -- a thread holds a slot
+  abbrev pub is_held : ℕ → Bool
+  is_held k = is_some (thread_on_slot slots k)
 
   -- no thread is on a slot past the last one
   none_past : (s : ℕ) → length slots ≤ s → is_ready_on s ≡ false
@@ -72,3 +77,14 @@ module _ (ready : Thread → Bool) (slots : List SeenSlot) where
     pub ready_on_slots : length slots ≤ 64 → on_slots (slots_where is_ready_on) ≡ map (λ t. Some t) (filter ready (threads_on slots))
     unfolding slots_where
     ready_on_slots few = ready_from 0 64 few
+
+    -- a scan that asks the threads ends with those that are ready
+    pub asking_ended : (rest taken : List ℕ) → length slots ≤ 64 → Scans is_ready_on is_held rest taken → None ≡ slice_get rest 0 → on_slots taken ≡ map (λ t. Some t) (filter ready (threads_on slots))
+    asking_ended rest taken few scans none = ap on_slots (scan_ended is_ready_on is_held rest taken scans none) ∙ ready_on_slots few
+
+  -- it goes on with the first slot, whose thread is asked
+  pub asking_more : (rest taken : List ℕ) (scans : Scans is_ready_on is_held rest taken) (slot : ℕ) (first : Some slot ≡ slice_get rest 0) (small : slot < 64) (left : List ℕ) → left ≡ without_slot slot rest
+      → (answer : Bool) → ((t : Thread) → thread_on_slot slots slot ≡ Some t → answer ≡ ready t) → (after : List ℕ) (b : Bool) → b ≡ answer → after ≡ cond b (with_slot slot taken) taken → Scans is_ready_on is_held left after
+  asking_more rest taken scans slot first small left is answer asked after b same next =
+      scan_more is_ready_on is_held rest taken scans slot first small left is after b
+      (same ∙ passes_by answer ready (thread_on_slot slots slot) (scan_there is_ready_on is_held rest taken scans slot first small) asked) next

@@ -1,5 +1,5 @@
 -- The conditions of the slots of a process as its threads are stepped.
-use Rattle.std.specs.Prelude.{◌≡◌, ℕ, ◌<◌, ◌||◌, Bool, true, false, List, Option, Some, None, nat_eq, slice_get}
+use Rattle.std.specs.Prelude.{◌≡◌, ℕ, ◌<◌, ◌||◌, Bool, true, false, List, [], Option, Some, None, nat_eq, slice_get}
 use Rattle.std.specs.Option.{option_map_or}
 use Rattle.pct_model.specs.declared.script.Script.{Script}
 use Rattle.pct_model.specs.declared.transition.NamedAction.{NamedAction}
@@ -30,6 +30,14 @@ FollowsAt script timeouts p i vs = (v : ReadyValue) → slice_get vs i ≡ Some 
 -- the same of each of these processes, by its place
 abbrev pub FollowAll : Script → Bool → List SeenProcess → List ReadyValue → Type 0
 FollowAll script timeouts ps vs = (i : ℕ) (p : SeenProcess) → slice_get ps i ≡ Some p → FollowsAt script timeouts p i vs
+
+-- what is known of a place, if there is anything, has no slot that is stale
+abbrev pub IsFreshAt : ℕ → List ReadyValue → Type 0
+IsFreshAt i vs = (v : ReadyValue) → slice_get vs i ≡ Some v → v.stale ≡ []
+
+-- the same of this number of places, from the first one on
+abbrev pub AreFresh : ℕ → List ReadyValue → Type 0
+AreFresh n vs = (i : ℕ) → i < n → IsFreshAt i vs
 
 -- ---- what a transition can change
 

@@ -33,7 +33,7 @@ impl AllReadySets {
     ghost use Rattle.pct_model.specs.declared.limits.TheConstants.{MAX_PROCESSES, MAX_SLOTS};
     ghost use Rattle.pct_set.specs.Slots.{slots_where};
     ghost use Rattle.pct_transitions.specs.ProcessSteps.{with_data};
-    ghost use Rattle.pct_ready_sets.specs.ReadyConditions.{touches, FollowsAt};
+    ghost use Rattle.pct_ready_sets.specs.ReadyConditions.{touches, FollowsAt, IsFreshAt};
     ghost use Rattle.pct_ready_sets.specs.ReadyGroups.{unknown, with_stale, all_stale};
 
     /// The sets of eight processes, of which nothing is known. `NoMemory` is returned if they do not fit into memory.
@@ -54,10 +54,11 @@ impl AllReadySets {
         self.sets.as_slice()
     }
 
-    /// Looks again at the slots of the process on a place that are stale.
+    /// Looks again at the slots of the process on a place that are stale. None is stale afterwards.
     pub fn refresh(&mut self, place: usize, program: &Program, process: &ProcessState)
         requires { FollowsAt program.now.script (has_timeouts program.now.config.format) (with_data process.now) place self.old }
         ensures here { FollowsAt program.now.script (has_timeouts program.now.config.format) (with_data process.now) place self.new }
+        ensures fresh { IsFreshAt place self.new }
         ensures others { (i : ℕ) → i ≢ place → slice_get self.new i ≡ slice_get self.old i }
     {
         if place < self.sets.len() {

@@ -1,7 +1,8 @@
 //! Looking again at the slots that are stale.
 
-ghost use Rattle.std.specs.Prelude.{◌≡◌, ◌<◌};
+ghost use Rattle.std.specs.Prelude.{◌≡◌, ◌<◌, []};
 ghost use Rattle.pct_model.specs.Formats.{has_timeouts};
+ghost use Rattle.pct_set.specs.Slots.{without_slot};
 ghost use Rattle.pct_transitions.specs.ProcessSteps.{with_data};
 ghost use Rattle.pct_ready_sets.specs.ReadyConditions.{condition_of_slot, Follows};
 
@@ -12,10 +13,11 @@ use pct_transitions::{Program, ReadyWhen, ready_when};
 use std::marker::Brand;
 use std::sync::ledger::{Blank, Ledger};
 
-/// Looks again at each slot that is stale.
+/// Looks again at each slot that is stale. None is stale afterwards.
 pub(crate) fn refresh(program: &Program, process: &ProcessState, sets: &mut ReadySets)
     requires { Follows program.now.script (has_timeouts program.now.config.format) (with_data process.now) sets.old }
-    ensures { Follows program.now.script (has_timeouts program.now.config.format) (with_data process.now) sets.new }
+    ensures follows { Follows program.now.script (has_timeouts program.now.config.format) (with_data process.now) sets.new }
+    ensures fresh { sets.new.stale ≡ [] }
 {
     let mut rest = sets.stale();
     // A set is determined by its slots.
@@ -26,11 +28,12 @@ pub(crate) fn refresh(program: &Program, process: &ProcessState, sets: &mut Read
     }
 }
 
-// Looks again at a slot.
+// Looks again at a slot. It is not stale afterwards.
 fn refresh_slot(program: &Program, process: &ProcessState, sets: &mut ReadySets, slot: u32)
     requires slot { slot < 64 }
     requires follows { Follows program.now.script (has_timeouts program.now.config.format) (with_data process.now) sets.old }
-    ensures { Follows program.now.script (has_timeouts program.now.config.format) (with_data process.now) sets.new }
+    ensures follows { Follows program.now.script (has_timeouts program.now.config.format) (with_data process.now) sets.new }
+    ensures stale { sets.new.stale ≡ without_slot slot sets.old.stale }
 {
     // There are 64 conditions.
     let _stale = sets.stale();

@@ -4,7 +4,7 @@ use Rattle.pct_engine_laws.specs.SeenSteps.{is_ready_in}
 use Rattle.pct_process.specs.FamilyViews.{other_processes}
 use Rattle.pct_process.specs.ProcessViews.{thread_on_slot}
 use Rattle.pct_transitions.specs.ProcessSteps.{with_data}
-use Rattle.pct_machine.proofs.ReadySlots.{is_ready_on}
+use Rattle.pct_ready_sets.proofs.ReadySlots.{is_ready_on}
 use Rattle.pct_machine.proofs.scheduler.ready_slots.Given as goal
 
 abbrev pub invariant-loop-slot : goal.invariant-loop-slot

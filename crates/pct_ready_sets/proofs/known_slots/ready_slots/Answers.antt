@@ -1,12 +1,11 @@
-use Rattle.pct_names.proofs.Names.{ap, arith, Bool, false, has_timeouts, length, map, sym, Thread, true, ◌∙◌}
+use Rattle.pct_names.proofs.Names.{ap, arith, Bool, false, has_timeouts, length, sym, Thread, true, ◌∙◌}
 use Rattle.pct_set.specs.Slots.{difference_of}
-use Rattle.pct_set.proofs.SlotScans.{scan_there, scan_fewer, scan_more, scan_ended}
+use Rattle.pct_set.proofs.SlotScans.{scan_there, scan_fewer}
 use Rattle.pct_engine_laws.specs.SeenSteps.{is_ready_in}
 use Rattle.pct_process.specs.FamilyViews.{other_processes}
-use Rattle.pct_process.specs.ProcessViews.{thread_on_slot}
 use Rattle.pct_transitions.specs.ProcessSteps.{with_data}
 use Rattle.pct_ready_sets.proofs.KnownSlots.{asking_begun}
-use Rattle.pct_ready_sets.proofs.ReadySlots.{is_ready_on, passes_by, ready_on_slots}
+use Rattle.pct_ready_sets.proofs.ReadySlots.{asking_more, asking_ended}
 use Rattle.pct_ready_sets.proofs.known_slots.ready_slots.Goals.{then-has_choice, else-has_choice}
 use Rattle.pct_ready_sets.proofs.known_slots.ready_slots.Goals as goal
 
@@ -27,20 +26,16 @@ pub loop-slot-preserved : goal.loop-slot-preserved
 loop-slot-preserved c =
     let d = c.args.process.now in
     let ready : Thread → Bool = is_ready_in c.args.around.program.now.script (has_timeouts c.args.around.program.now.config.format) (length d.slots) (other_processes c.args.around.family) (with_data d) in
-    let rest = c.loop-slot.rest in
-    let slot = c.in-Some.slot in
     let first = c.in-Some.ensures in
-    let here = scan_there _ _ rest c.loop-slot.ready c.loop-slot.invariant slot first.value first.below in
-    let passes = passes_by c.has_choice.result ready (thread_on_slot d.slots slot) here c.has_choice.ensures in
-    let more = scan_more _ _ rest c.loop-slot.ready c.loop-slot.invariant slot first.value first.below c.remove.new.self c.remove.ensures c.if-has_choice.ready in
+    let more =
+    asking_more ready d.slots c.loop-slot.rest c.loop-slot.ready c.loop-slot.invariant c.in-Some.slot first.value first.below c.remove.new.self c.remove.ensures c.has_choice.result c.has_choice.ensures c.if-has_choice.ready in
     elim c.if-has_choice.branch [
-      | then-has_choice w ↦ more true (sym w.if-has_choice.true ∙ passes) (w.ready-is ∙ w.insert.ensures)
-      | else-has_choice w ↦ more false (sym w.if-has_choice.false ∙ passes) w.ready-is
+      | then-has_choice w ↦ more true (sym w.if-has_choice.true) (w.ready-is ∙ w.insert.ensures)
+      | else-has_choice w ↦ more false (sym w.if-has_choice.false) w.ready-is
     ]
 
 pub returns : goal.returns
 returns c =
     let d = c.args.process.now in
     let ready : Thread → Bool = is_ready_in c.args.around.program.now.script (has_timeouts c.args.around.program.now.config.format) (length d.slots) (other_processes c.args.around.family) (with_data d) in
-    ap (map (thread_on_slot d.slots)) (scan_ended (is_ready_on ready d.slots) _ c.loop-slot.rest c.loop-slot.ready c.loop-slot.invariant c.in_default.ensures.value)
-    ∙ ready_on_slots ready d.slots c.slot_count-count.ensures.single (omega (arith, c.slot_count-count.ensures.value, c.slot_count-count.ensures.few))
+    asking_ended ready d.slots c.slot_count-count.ensures.single c.loop-slot.rest c.loop-slot.ready (omega (arith, c.slot_count-count.ensures.value, c.slot_count-count.ensures.few)) c.loop-slot.invariant c.in_default.ensures.value

@@ -34,5 +34,5 @@ returns-clause-follow g c =
     let timeouts = has_timeouts config.format in
     let list : ProcessList = c.self.inside.processes in
     let can : AllCanStep config.slots list.processes list.made = subst (λ (v : Seen). AllCanStep config.slots v.processes v.made) (sym c.self.view_is) c.requires.can in
-    let follows : FollowAll script timeouts list.processes c.refresh.new.sets = subst (λ (v : Seen). FollowAll script timeouts v.processes c.refresh.new.sets) (sym c.self.view_is) c.refresh.ensures in
+    let follows : FollowAll script timeouts list.processes c.find_seat.new.sets = subst (λ (v : Seen). FollowAll script timeouts v.processes c.find_seat.new.sets) (sym c.self.view_is) c.find_seat.ensures.follow in
     c.finish.ensures.follow list can.each c.in_ok-entry.ensures.moved follows
