@@ -1,0 +1,40 @@
+-- Cells that all have a value.
+use Rattle.std.proofs.Common.{◌≡◌, ℕ, ◌<◌, List, [], ◌∷◌, length, get_or, set, map, replicate, zero, suc, refl, sym, ap, ◌∙◌, Option, Some, None}
+use Rattle.std.proofs.lemmas.List.{length-map, get_or-map, map-set}
+use Rattle.std.specs.Option.{unwrap_or}
+use Rattle.pct_stack.specs.Cells.{somes, AreFilled}
+
+module _ {X : Type 0} where
+  somes-map : (xs : List X) → somes (map Some xs) ≡ xs
+  somes-map [] = refl
+  somes-map (x ∷ xs) = ap (λ l. x ∷ l) (somes-map xs)
+
+  pub length-somes : (cells : List (Option X)) → AreFilled cells → length (somes cells) ≡ length cells
+  length-somes cells full = sym (length-map (somes cells) Some) ∙ sym (ap length full)
+
+  pub filled_at : (cells : List (Option X)) → AreFilled cells → (i : ℕ) (d : X) → i < length (somes cells) → get_or cells i None ≡ Some (get_or (somes cells) i d)
+  filled_at cells full i d inside = ap (λ l. get_or l i None) full ∙ get_or-map Some (somes cells) i d None inside
+
+  set_full : (cells : List (Option X)) → AreFilled cells → (i : ℕ) (x : X) → set cells i (Some x) ≡ map Some (set (somes cells) i x)
+  set_full cells full i x = ap (λ l. set l i (Some x)) full ∙ sym (map-set Some (somes cells) i x)
+
+  -- a value is written over one that is there
+  pub somes-set : (cells : List (Option X)) → AreFilled cells → (i : ℕ) (x : X) → somes (set cells i (Some x)) ≡ set (somes cells) i x
+  somes-set cells full i x = ap somes (set_full cells full i x) ∙ somes-map (set (somes cells) i x)
+
+  pub AreFilled-set : (cells : List (Option X)) → AreFilled cells → (i : ℕ) (x : X) → AreFilled (set cells i (Some x))
+  AreFilled-set cells full i x = set_full cells full i x ∙ ap (map Some) (sym (somes-set cells full i x))
+
+  pub somes-replicate : (n : ℕ) (x : X) → somes (replicate n (Some x)) ≡ replicate n x
+  somes-replicate zero x = refl
+  somes-replicate (suc n) x = ap (λ l. x ∷ l) (somes-replicate n x)
+
+  pub AreFilled-replicate : (n : ℕ) (x : X) → AreFilled (replicate n (Some x))
+  AreFilled-replicate n x = filled n ∙ ap (map Some) (sym (somes-replicate n x))
+    where
+      filled : (m : ℕ) → replicate m (Some x) ≡ map Some (replicate m x)
+      filled zero = refl
+      filled (suc m) = ap (λ l. Some x ∷ l) (filled m)
+
+pub some_same : {X : Type 0} (d x y : X) → Some x ≡ Some y → x ≡ y
+some_same d x y same = ap (λ o. unwrap_or o d) same

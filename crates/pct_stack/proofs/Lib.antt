@@ -1,0 +1,11 @@
+pub mod RowLemmas
+pub mod WriteLemmas
+pub mod ChainLemmas
+pub mod BlockLemmas
+pub mod GiveLemmas
+pub mod TakenLemmas
+pub mod CellLemmas
+pub mod BlockLayout
+pub mod CellSteps
+pub mod CellSharing
+pub mod CellCrossing

@@ -1,0 +1,5 @@
+pub mod Stacks
+pub mod Rows
+pub mod Links
+pub mod Cells
+pub mod Ownership

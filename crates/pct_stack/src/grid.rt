@@ -1,0 +1,92 @@
+//! Rows of words, one after the other in one block: word `i` of row `row` is at `row * width + i`.
+
+ghost use Rattle.std.specs.Prelude.{◌≡◌, ◌<◌, ◌≤◌, length, replicate, IfOk};
+ghost use Rattle.pct_stack.specs.Rows.{row_at, word_at, with_row, with_word};
+
+use crate::words::Words;
+use pct_io::NoMemory;
+use std::alloc::Global;
+use std::marker::Model;
+
+/// At most 64 rows of at most 1,024 words each.
+#[derive(Drop)]
+pub struct Grid {
+    words: Words,
+    rows: u32,
+    width: u32,
+}
+
+impl Model for Grid {
+    ghost use Rattle.std.specs.Prelude.{◌≡◌, ◌*◌, ◌≤◌, length};
+    ghost use Rattle.pct_stack.specs.Rows.{Rows, rows_of};
+
+    ghost Value = { Rows };
+
+    ghost view = { λ g. record { width = g.width; rows = rows_of g.rows g.width g.words } };
+
+    ghost invariant = { λ g. (length g.words ≡ g.rows * g.width) × (g.rows ≤ 64) × (g.width ≤ 1024) };
+}
+
+impl Grid {
+    /// At most 64 rows of at most 1,024 words each, all of which are 0.
+    pub(crate) fn new(alloc: Global, rows: u32, width: u32) -> Result<Grid, NoMemory>
+        requires rows { rows ≤ 64 }
+        requires width { width ≤ 1024 }
+        ensures { IfOk result (λ grid. grid ≡ record { width = width; rows = replicate rows (replicate width 0) }) }
+    {
+        let words = Words::new(alloc, rows as usize * width as usize)?;
+        Ok(Grid { words, rows, width })
+    }
+
+    /// The number of rows, at most 64.
+    #[inline(always)]
+    pub(crate) fn row_count(&self) -> u32
+        ensures value { result ≡ length self.now.rows }
+        ensures few { result ≤ 64 }
+    {
+        self.rows
+    }
+
+    #[inline(always)]
+    pub(crate) fn word(&self, row: u32, i: u32) -> u32
+        requires row { row < length self.now.rows }
+        requires i { i < self.now.width }
+        ensures { result ≡ word_at self.now row i }
+    {
+        let index = row as usize * self.width as usize + i as usize;
+        self.words.get(index)
+    }
+
+    #[inline(always)]
+    pub(crate) fn set_word(&mut self, row: u32, i: u32, value: u32)
+        requires row { row < length self.old.rows }
+        requires i { i < self.old.width }
+        ensures { self.new ≡ with_word row i value self.old }
+    {
+        let index = row as usize * self.width as usize + i as usize;
+        self.words.set(index, value);
+    }
+
+    /// Makes all words of a row 0.
+    pub(crate) fn clear(&mut self, row: u32)
+        requires { row < length self.old.rows }
+        ensures { self.new ≡ with_row row (replicate self.old.width 0) self.old }
+    {
+        for i in 0..self.width {
+            self.set_word(row, i, 0);
+        }
+    }
+
+    /// Makes the words of a row those of the same row of another grid, which has as many.
+    pub(crate) fn copy_row(&mut self, other: &Grid, row: u32)
+        requires own { row < length self.old.rows }
+        requires others { row < length other.now.rows }
+        requires width { self.old.width ≡ other.now.width }
+        requires even { length (row_at other.now row) ≡ other.now.width }
+        ensures { self.new ≡ with_row row (row_at other.now row) self.old }
+    {
+        for i in 0..self.width {
+            self.set_word(row, i, other.word(row, i));
+        }
+    }
+}

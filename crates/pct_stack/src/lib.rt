@@ -1,0 +1,11 @@
+//! Memory for the stacks of threads: a block of slots of equal size, which are taken and given back.
+#![tactic(auto)]
+
+mod cells;
+mod grid;
+mod stack_block;
+#[cfg(test)]
+mod tests;
+mod words;
+
+pub use stack_block::StackBlock;

@@ -1,0 +1,78 @@
+//! A block of words in memory. In a contract it is the list of the words.
+
+ghost use Rattle.std.specs.Prelude.{◌≡◌, ◌<◌, ◌≤◌, ◌^◌, length, replicate, slice_set, slice_index_or, IfOk};
+
+use crate::cells::{BlockStart, Cells, FreeRight, allocate, deallocate};
+use pct_io::NoMemory;
+use std::alloc::Global;
+use std::marker::Model;
+
+/// A fixed number of words in one block of memory, which is freed when they are dropped.
+pub struct Words {
+    start: BlockStart<u32>,
+    count: usize,
+    // Each has a value.
+    cells: Cells<u32>,
+    right: FreeRight<u32, Global>,
+    alloc: Global,
+}
+
+impl Model for Words {
+    ghost use Rattle.std.specs.Prelude.{ℕ, List, ◌≡◌, length};
+    ghost use Rattle.pct_stack.specs.Cells.{somes, AreFilled};
+
+    ghost Value = { List ℕ };
+
+    ghost view = { λ w. somes w.cells.values };
+
+    ghost invariant = { λ w. (w.cells.at ≡ w.start.ptr) × (w.right.at ≡ w.start.ptr) × (w.right.len ≡ w.count) × (w.right.alloc ≡ w.alloc) × (length w.cells.values ≡ w.count) × AreFilled w.cells.values };
+}
+
+impl Words {
+    /// `count` words, all of them 0. A count is at most 65,536.
+    pub(crate) fn new(alloc: Global, count: usize) -> Result<Words, NoMemory>
+        requires { count ≤ 65536 }
+        ensures { IfOk result (λ words. words ≡ replicate count 0) }
+    {
+        let (start, mut cells, right) = allocate(&alloc, count)?;
+        for index in 0..count {
+            cells.write(start, index, 0);
+        }
+        Ok(Words {
+            start,
+            count,
+            cells,
+            right,
+            alloc,
+        })
+    }
+
+    #[inline(always)]
+    pub(crate) fn get(&self, index: usize) -> u32
+        requires { index < length self.now }
+        ensures { result ≡ slice_index_or self.now index 0 }
+    {
+        *self.cells.get(self.start, index)
+    }
+
+    #[inline(always)]
+    pub(crate) fn set(&mut self, index: usize, value: u32)
+        requires { index < length self.old }
+        ensures { self.new ≡ slice_set self.old index value }
+    {
+        self.cells.write(self.start, index, value);
+    }
+}
+
+impl Drop for Words {
+    fn drop(self) {
+        let Words {
+            start,
+            count,
+            cells,
+            right,
+            alloc,
+        } = self;
+        deallocate(&alloc, start, count, cells, right);
+    }
+}
