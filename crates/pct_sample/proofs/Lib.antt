@@ -1,0 +1,6 @@
+mod OkRuns
+mod FirstHits
+mod Verdicts
+mod SeedRuns
+mod FirstSeeds
+mod SeedOptions

@@ -1,0 +1,4 @@
+pub mod SeedRuns
+pub mod Tallies
+pub mod FirstSeeds
+pub mod SeedWords
