@@ -4,3 +4,4 @@ mod Verdicts
 mod SeedRuns
 mod FirstSeeds
 mod SeedOptions
+mod OneTally

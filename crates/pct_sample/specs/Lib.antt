@@ -2,3 +2,4 @@ pub mod SeedRuns
 pub mod Tallies
 pub mod FirstSeeds
 pub mod SeedWords
+pub mod OneTally

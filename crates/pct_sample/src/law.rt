@@ -1,9 +1,16 @@
-//! Which runs the seeds of a sample name.
+//! Which runs the seeds of a sample name, and that there is one tally of them.
 
+ghost use Rattle.pct_sample.specs.OneTally.{TalliesAreOne};
 ghost use Rattle.pct_sample.specs.SeedWords.{SeedsAreOptions};
 
 /// An empty function whose contract states a theorem: the words `run --seed S` ask for the run that a sample makes under the seed S, with the
 /// default configuration, one worker, and a turn for each entry of the budget.
 pub fn seeds_are_options()
     ensures { SeedsAreOptions }
+{}
+
+/// An empty function whose contract states a theorem: a script has one tally for each number of seeds. It does not depend on how the runs are
+/// spread.
+pub fn tallies_are_one()
+    ensures { TalliesAreOne }
 {}

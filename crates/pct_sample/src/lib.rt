@@ -10,7 +10,7 @@ mod tally;
 mod tests;
 
 pub use copying::copy_script;
-pub use law::seeds_are_options;
+pub use law::{seeds_are_options, tallies_are_one};
 pub use sampling::{sample, sample_runs};
 pub use seed_run::{SeedRun, run_seed};
 pub use tally::{Count, StopCount, Stops, Tally, tally_of};

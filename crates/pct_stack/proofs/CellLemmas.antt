@@ -1,8 +1,9 @@
 -- Cells that all have a value.
-use Rattle.std.proofs.Common.{◌≡◌, ℕ, ◌<◌, List, [], ◌∷◌, length, get_or, set, map, replicate, zero, suc, refl, sym, ap, ◌∙◌, Option, Some, None}
+use Rattle.std.proofs.Common.{◌≡◌, ℕ, ◌<◌, List, [], ◌∷◌, length, get_or, set, map, replicate, zero, suc, ◌+◌, refl, sym, ap, ◌∙◌, Option, Some, None}
 use Rattle.std.proofs.lemmas.List.{length-map, get_or-map, map-set}
 use Rattle.std.specs.Option.{unwrap_or}
 use Rattle.pct_stack.specs.Cells.{somes, AreFilled}
+use Rattle.pct_stack.specs.Rows.{set_from}
 
 module _ {X : Type 0} where
   somes-map : (xs : List X) → somes (map Some xs) ≡ xs
@@ -24,6 +25,17 @@ module _ {X : Type 0} where
 
   pub AreFilled-set : (cells : List (Option X)) → AreFilled cells → (i : ℕ) (x : X) → AreFilled (set cells i (Some x))
   AreFilled-set cells full i x = set_full cells full i x ∙ ap (map Some) (sym (somes-set cells full i x))
+
+  -- a value is written over many
+  pub AreFilled-set_from : (cells : List (Option X)) → AreFilled cells → (first n : ℕ) (x : X) → AreFilled (set_from (Some x) first n cells)
+  AreFilled-set_from cells full first zero x = full
+  AreFilled-set_from cells full first (suc n) x = AreFilled-set (set_from (Some x) first n cells) (AreFilled-set_from cells full first n x) (first + n) x
+
+  pub somes-set_from : (cells : List (Option X)) → AreFilled cells → (first n : ℕ) (x : X) → somes (set_from (Some x) first n cells) ≡ set_from x first n (somes cells)
+  somes-set_from cells full first zero x = refl
+  somes-set_from cells full first (suc n) x =
+      somes-set (set_from (Some x) first n cells) (AreFilled-set_from cells full first n x) (first + n) x
+      ∙ ap (λ l. set l (first + n) x) (somes-set_from cells full first n x)
 
   pub somes-replicate : (n : ℕ) (x : X) → somes (replicate n (Some x)) ≡ replicate n x
   somes-replicate zero x = refl

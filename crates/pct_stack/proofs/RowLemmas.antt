@@ -3,8 +3,8 @@ use Rattle.std.proofs.Common.{◌≡◌, ℕ, zero, suc, ◌+◌, ◌-◌, ◌*�
 use Rattle.std.proofs.Common.{zero-mul, suc-mul}
 use Rattle.std.proofs.Math.Nat.{mul-le-mul_right}
 use Rattle.std.proofs.Math.Seq.{take-set-lt}
-use Rattle.std.proofs.lemmas.List.{get_or-take, get_or-drop, drop-drop, drop-set-lt, drop-set-add, take-set-le, take-replicate, drop-replicate, get_or-set_same, length-take, length-drop, set-set, set-get_or, set_at, drop_more, take_more, append_assoc, append-nil, take_all, drop_all}
-use Rattle.pct_stack.specs.Rows.{Rows, row_at, with_row, with_word, rows_of}
+use Rattle.std.proofs.lemmas.List.{get_or-take, get_or-drop, drop-drop, drop-set-lt, drop-set-add, take-set-le, take-replicate, drop-replicate, get_or-set_same, length-take, length-drop, set-set, set-get_or, set_at, drop_more, take_more, append_assoc, append-nil, take_all, drop_all, get_or-replicate, length-replicate, length-set}
+use Rattle.pct_stack.specs.Rows.{Rows, row_at, with_row, with_word, rows_of, set_from}
 
 pub length-rows_of : (n width : ℕ) (words : List ℕ) → length (rows_of n width words) ≡ n
 length-rows_of zero width words = refl
@@ -63,6 +63,10 @@ rows_of-even n width words row all inside =
 -- ---- a row that is written from its first word on
 
 module _ {X : Type 0} where
+  pub length-set_from : (x : X) (first n : ℕ) (items : List X) → length (set_from x first n items) ≡ length items
+  length-set_from x first zero items = refl
+  length-set_from x first (suc n) items = length-set (set_from x first n items) (first + n) x ∙ length-set_from x first n items
+
   -- the first items of one list, and then the rest of the other
   abbrev pub written : ℕ → List X → List X → List X
   written i new old = take i new ++ drop i old
@@ -110,3 +114,25 @@ even_of n width words seen is all row inside =
     ap (λ (g : Rows). length (row_at g row)) (sym is)
     ∙ rows_of-even n width words row all (omega (arith, inside, count_of n width words seen is))
     ∙ ap (λ (g : Rows). g.width) is
+
+-- the first words of a row are 0
+module _ (n width : ℕ) (words : List ℕ) (all : length words ≡ n * width) (row : ℕ) (inside : row < n) where
+  abbrev rows_seen : Rows
+  rows_seen = record { width = width; rows = rows_of n width words }
+
+  in_rows : row < length rows_seen.rows
+  in_rows = omega (arith, inside, length-rows_of n width words)
+
+  pub cleared-first : (k : ℕ) → k ≤ width → record { width = width; rows = rows_of n width (set_from 0 (row * width) k words) } ≡ with_row row (written k (replicate width 0) (row_at rows_seen row)) rows_seen
+  cleared-first zero small = sym (written-first rows_seen row in_rows (replicate width 0))
+  cleared-first (suc k) small =
+      ap (λ (rows : List (List ℕ)). record { width = width; rows = rows }) (rows_of-set n width (set_from 0 (row * width) k words) row k 0 inside (omega (arith, small)))
+      ∙ ap (with_word row k 0) (cleared-first k (omega (arith, small)))
+      ∙ written-next rows_seen row in_rows k (replicate width 0) 0 (omega (arith, small, length-replicate {A = ℕ} width 0)) (omega (arith, small, rows_of-even n width words row all inside)) (sym (get_or-replicate width k 0 0 (omega (arith, small))))
+      ∙ ap (λ j. with_row row (written j (replicate width 0) (row_at rows_seen row)) rows_seen) {x = k + 1} {y = suc k} (omega arith)
+
+  -- all words of a row are 0
+  pub cleared-row : record { width = width; rows = rows_of n width (set_from 0 (row * width) width words) } ≡ with_row row (replicate width 0) rows_seen
+  cleared-row =
+      cleared-first width (omega arith)
+      ∙ written-last rows_seen row in_rows width (replicate width 0) (omega (arith, length-replicate {A = ℕ} width 0)) (omega (arith, rows_of-even n width words row all inside))

@@ -1,5 +1,5 @@
 -- Rows of words, and how they lie in one list. No public clause cites this module.
-use Rattle.std.specs.Prelude.{ℕ, zero, suc, List, [], ◌∷◌, take, drop, slice_index_or, slice_set}
+use Rattle.std.specs.Prelude.{ℕ, zero, suc, ◌+◌, List, [], ◌∷◌, take, drop, slice_index_or, slice_set}
 
 -- rows of `width` words each
 pub record Rows : Type 0 where
@@ -26,3 +26,8 @@ with_word row i value grid = with_row row (slice_set (row_at grid row) i value) 
 abbrev pub rows_of : ℕ → ℕ → List ℕ → List (List ℕ)
 rows_of zero width words = []
 rows_of (suc n) width words = take width words ∷ rows_of n width (drop width words)
+
+-- so many items from the first on are this one
+abbrev pub set_from : {X : Type 0} → X → ℕ → ℕ → List X → List X
+set_from x first zero items = items
+set_from x first (suc n) items = slice_set (set_from x first n items) (first + n) x

@@ -72,9 +72,8 @@ impl Grid {
         requires { row < length self.old.rows }
         ensures { self.new ≡ with_row row (replicate self.old.width 0) self.old }
     {
-        for i in 0..self.width {
-            self.set_word(row, i, 0);
-        }
+        let first = row as usize * self.width as usize;
+        self.words.clear(first, self.width);
     }
 
     /// Makes the words of a row those of the same row of another grid, which has as many.

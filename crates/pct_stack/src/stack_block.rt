@@ -115,7 +115,9 @@ impl StackBlock {
     pub fn set_word(&mut self, slot: u32, i: u32, value: u32)
         requires slot { is_taken self.old slot ≡ true }
         requires i { i < self.old.width }
-        ensures { self.new ≡ with_words slot (slice_set (words_at self.old slot) i value) self.old }
+        ensures block { self.new ≡ with_words slot (slice_set (words_at self.old slot) i value) self.old }
+        // This holds of every slot that is taken.
+        ensures long { length (words_at self.old slot) ≡ self.old.width }
     {
         self.grid.set_word(slot, i, value);
     }
@@ -147,7 +149,7 @@ impl StackBlock {
     }
 }
 
-// Puts the slot in front of the free slots, the first of which is `head`.
+// Makes the slot the first of the free slots; `head` is the first one before.
 fn link(grid: &mut Grid, head: &mut u32, slot: u32)
     requires slot { slot < length grid.old.rows }
     requires width { 2 ≤ grid.old.width }

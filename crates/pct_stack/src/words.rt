@@ -1,6 +1,7 @@
 //! A block of words in memory. In a contract it is the list of the words.
 
-ghost use Rattle.std.specs.Prelude.{◌≡◌, ◌<◌, ◌≤◌, ◌^◌, length, replicate, slice_set, slice_index_or, IfOk};
+ghost use Rattle.std.specs.Prelude.{◌≡◌, ◌<◌, ◌≤◌, ◌+◌, ◌^◌, length, replicate, slice_set, slice_index_or, Some, IfOk};
+ghost use Rattle.pct_stack.specs.Rows.{set_from};
 
 use crate::cells::{BlockStart, Cells, FreeRight, allocate, deallocate};
 use pct_io::NoMemory;
@@ -61,6 +62,27 @@ impl Words {
         ensures { self.new ≡ slice_set self.old index value }
     {
         self.cells.write(self.start, index, value);
+    }
+
+    /// Makes so many words 0, from the first on.
+    pub(crate) fn clear(&mut self, first: usize, count: u32)
+        requires { first + count ≤ length self.old }
+        ensures { self.new ≡ set_from 0 first count self.old }
+    {
+        clear_cells(&mut self.cells, self.start, first, count);
+    }
+}
+
+// Puts 0 into so many cells, from the first on.
+fn clear_cells(cells: &mut Cells<u32>, start: BlockStart<u32>, first: usize, count: u32)
+    requires start { start.ptr ≡ cells.old.at }
+    requires within { first + count ≤ length cells.old.values }
+    requires fits { first + count < 2 ^ 64 }
+    ensures at { cells.new.at ≡ cells.old.at }
+    ensures values { cells.new.values ≡ set_from (Some 0) first count cells.old.values }
+{
+    for i in 0..count {
+        cells.write(start, first + i as usize, 0);
     }
 }
 

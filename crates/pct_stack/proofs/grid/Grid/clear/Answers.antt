@@ -1,29 +1,25 @@
-use Rattle.std.proofs.Common.{◌≡◌, ℕ, ◌<◌, List, length, replicate, ◌∙◌, ap, sym, arith}
-use Rattle.std.proofs.lemmas.List.{get_or-replicate, length-replicate}
-use Rattle.pct_stack.specs.Rows.{Rows, row_at, with_word}
-use Rattle.pct_stack.proofs.RowLemmas.{even_of, written-first, written-next, written-last}
+use Rattle.std.proofs.Common.{ℕ, ◌<◌, List, length, ◌∙◌, ap, arith, replicate, suc-mul, suc, ◌*◌, ◌≤◌}
+use Rattle.std.proofs.Math.Nat.{mul-le-mul_right}
+use Rattle.pct_stack.specs.Rows.{Rows, with_row, rows_of}
+use Rattle.pct_stack.proofs.RowLemmas.{count_of, cleared-row, length-set_from}
 use Rattle.pct_stack.proofs.grid.Grid.clear.Goals as goal
 
-pub loop-i-init : goal.loop-i-init
-loop-i-init c = sym (written-first c.args.self.now c.args.row c.requires (replicate c.args.self.now.width 0))
-
-pub loop-i-preserved : goal.loop-i-preserved
-loop-i-preserved c =
+pub clear-requires : goal.clear-requires
+clear-requires c =
     let s = c.self.inside in
-    let old : Rows = c.args.self.now in
-    let zeros : List ℕ = replicate old.width 0 in
-    let width : s.width ≡ old.width = ap (λ (g : Rows). g.width) c.self.view_is in
-    let more : c.loop-i.i < old.width = omega (arith, c.loop-i-test.true, width) in
-    let long : length (row_at old c.args.row) ≡ old.width = even_of s.rows s.width s.words old c.self.view_is c.self.invariant.0 c.args.row c.requires in
-    c.set_word.ensures ∙ ap (with_word c.args.row c.loop-i.i 0) c.loop-i.invariant
-    ∙ written-next old c.args.row c.requires c.loop-i.i zeros 0 (omega (arith, more, length-replicate {A = ℕ} old.width 0)) (omega (arith, more, long)) (sym (get_or-replicate old.width c.loop-i.i 0 0 more))
+    let row : c.args.row < s.rows = omega (arith, c.requires, count_of s.rows s.width s.words c.args.self.now c.self.view_is) in
+    let rows : suc c.args.row * s.width ≤ s.rows * s.width = mul-le-mul_right s.width (omega (arith, row)) in
+    omega (arith, rows, suc-mul c.args.row s.width, c.self.invariant.0)
+
+pub invariant_of-self : goal.invariant_of-self
+invariant_of-self c =
+    let s = c.self.inside in
+    (ap length c.clear.ensures ∙ length-set_from 0 (c.args.row * s.width) s.width s.words ∙ c.self.invariant.0, c.self.invariant.1, c.self.invariant.2)
 
 pub returns : goal.returns
 returns c =
     let s = c.self.inside in
-    let old : Rows = c.args.self.now in
-    let zeros : List ℕ = replicate old.width 0 in
-    let width : s.width ≡ old.width = ap (λ (g : Rows). g.width) c.self.view_is in
-    let long : length (row_at old c.args.row) ≡ old.width = even_of s.rows s.width s.words old c.self.view_is c.self.invariant.0 c.args.row c.requires in
-    c.loop-i.invariant
-    ∙ written-last old c.args.row c.requires c.loop-i.i zeros (omega (arith, c.loop-i-test.false, width, length-replicate {A = ℕ} old.width 0)) (omega (arith, c.loop-i-test.false, width, long))
+    let row : c.args.row < s.rows = omega (arith, c.requires, count_of s.rows s.width s.words c.args.self.now c.self.view_is) in
+    ap (λ (words : List ℕ). record { width = s.width; rows = rows_of s.rows s.width words }) c.clear.ensures
+    ∙ cleared-row s.rows s.width s.words c.self.invariant.0 c.args.row row
+    ∙ ap (λ (g : Rows). with_row c.args.row (replicate g.width 0) g) c.self.view_is

@@ -20,8 +20,8 @@ invariant_of-self c =
     let long : length words ≡ s.grid.width = length-set (row_at s.grid slot) c.args.i c.args.value ∙ c.self.invariant.even slot (taken_within s.grid s.head c.self.invariant slot taken) in
     subst (λ (g : Rows). IsBlock g s.head) (sym c.set_word.ensures) (rewritten-block s.grid s.head c.self.invariant slot words taken long)
 
-pub returns : goal.returns
-returns c =
+pub returns-clause-block : goal.returns-clause-block
+returns-clause-block c =
     let s = c.self.inside in
     let slot : ℕ = c.args.slot in
     let taken : is_taken (stacks_of s.grid s.head) slot ≡ true = ap (λ (t : Stacks). is_taken t slot) c.self.view_is ∙ c.requires.slot in
@@ -31,3 +31,13 @@ returns c =
     ∙ rewritten-stacks s.grid s.head c.self.invariant slot words taken long
     ∙ ap (λ (ws : List ℕ). with_words slot (set ws c.args.i c.args.value) (stacks_of s.grid s.head)) (sym (words_taken s.grid s.head c.self.invariant slot taken))
     ∙ ap (λ (t : Stacks). with_words slot (set (words_at t slot) c.args.i c.args.value) t) c.self.view_is
+
+pub returns-clause-long : goal.returns-clause-long
+returns-clause-long c =
+    let s = c.self.inside in
+    let slot : ℕ = c.args.slot in
+    let taken : is_taken (stacks_of s.grid s.head) slot ≡ true = ap (λ (t : Stacks). is_taken t slot) c.self.view_is ∙ c.requires.slot in
+    sym (ap (λ (t : Stacks). length (words_at t slot)) c.self.view_is)
+    ∙ ap length (words_taken s.grid s.head c.self.invariant slot taken)
+    ∙ c.self.invariant.even slot (taken_within s.grid s.head c.self.invariant slot taken)
+    ∙ ap (λ (t : Stacks). t.width) c.self.view_is
