@@ -333,6 +333,8 @@ CALLS = [
     Case("demo without a number", "./pct demo", 5, "refused words\n", [USAGE, "pct demo N"]),
     Case("demo with a file", "./pct demo a.pct", 5, "refused words\n", [USAGE], {"a.pct": SMALLEST}),
     Case("demo reads nothing", "{ ./pct demo 0 | head -n 1; cat; } < a.pct", 0, "demo 0\n" + SMALLEST, [], {"a.pct": SMALLEST}),
+    Case("sample with a file", "./pct sample 2 a.pct | head -n 2", 0, "sample 2\ncomplete 2 first 1\n", [], {"a.pct": SMALLEST}),
+    Case("sample without a number", "./pct sample a.pct", 5, "refused words\n", [USAGE, "pct sample K"], {"a.pct": SMALLEST}),
     Case("a command in upper case", "./pct RUN a.pct", 5, "refused words\n", [USAGE], {"a.pct": SMALLEST}),
     Case("build with a word more", "./pct build now", 5, "refused words\n", [USAGE]),
     Case(

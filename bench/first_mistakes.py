@@ -321,6 +321,8 @@ WORDS = [
     ("a command that is none", "start a.pct", "start: no such command\n"),
     ("a number past 2^32", "demo 4294967296", "4294967296: demo takes a number from 0 to 4294967295\n"),
     ("a demo without its number", "demo", "demo: its number is missing, 0 to 4294967295\n"),
+    ("a sample of no seeds", "sample 0 a.pct", "0: sample takes a number from 1 to 10000\n"),
+    ("a file in the place of a number of seeds", "sample a.pct", "a.pct: sample takes a number from 1 to 10000\n"),
     ("a file in the place of a seed", "continue a.pct", "a.pct: continue takes a number from 0 to 18446744073709551615\n"),
     ("a word too many for a view", "trace a.pct a.pct 1 more", "more: a word too many for trace\n"),
 ]

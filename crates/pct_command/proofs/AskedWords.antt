@@ -2,14 +2,15 @@
 use Rattle.pct_names.proofs.Names.{[], ap, asks_demo, Bool, bytes_eq, cond, demo_number, false, false≢true, if◌then◌else◌, is_accepted}
 use Rattle.pct_names.proofs.Names.{is_asked, is_some, Keyword, keyword_text, le_refl, length, List, needs_input, None, none-some, numeral}
 use Rattle.pct_names.proofs.Names.{Option, option_map, option_map_or, or_parts, refl, run_options, RunOptions, script_part, Some, sym, take}
-use Rattle.pct_names.proofs.Names.{take_all, true, ◌||◌, ℕ, ◌∙◌, ◌∷◌, ◌≡◌}
-use Rattle.std.proofs.lemmas.Bool.{true≢false}
+use Rattle.pct_names.proofs.Names.{take_all, true, ◌||◌, ◌&&◌, ℕ, ◌∙◌, ◌∷◌, ◌≡◌, ◌≤◌}
+use Rattle.pct_names.proofs.Names.{and_parts, asks_sample, nat_le, option_and_then, sample_number, same_Some, seed_count, subst}
+use Rattle.std.proofs.lemmas.Bool.{leb-true, true≢false}
 use Rattle.pct_model.specs.declared.keyword.Keyword.TheVariants as keyword
 use Rattle.pct_model.proofs.Bytes.{same_bytes}
 use Rattle.pct_history.proofs.IllegalEntries.{has_value}
 use Rattle.pct_options.proofs.Configs.{run_has_workers, run_is_within}
 use Rattle.pct_command.specs.declared.words.Job.{Job}
-use Rattle.pct_command.specs.declared.words.Job.TheVariants.{Run, Replay, Check, Points, Demo}
+use Rattle.pct_command.specs.declared.words.Job.TheVariants.{Run, Replay, Check, Points, Demo, Sample}
 use Rattle.pct_command.specs.Words.{Asks, HasInput, job_asked, parts_of_job}
 
 asked_is : (k : Keyword) (words : List (List ℕ)) → is_asked k words ≡ true → words ≡ keyword_text k ∷ []
@@ -60,7 +61,7 @@ demo_asked words asked = has_value (demo_number words) asked
 
 -- `demo` needs no input
 pub demo_needs_none : (words : List (List ℕ)) (number : ℕ) → demo_number words ≡ Some number → needs_input words ≡ false
-unfolding run_options is_asked keyword_text
+unfolding run_options is_asked sample_number keyword_text
 demo_needs_none words number asked = ap needs_input (demo_words words number asked).are
 
 -- and it is not `points`
@@ -74,35 +75,73 @@ input_is_no_demo words needs asked =
     let number = demo_asked words asked in
     true≢false (sym needs ∙ demo_needs_none words number.0 number.1)
 
+-- ---- `sample` and a number of seeds
+
+-- the words are `sample` and a text of this number, which is within the limit
+pub record AsksSample (words : List (List ℕ)) (seeds : ℕ) : Type 0 where
+  pub text : List ℕ
+  pub are : words ≡ keyword_text keyword.Sample ∷ text ∷ []
+  pub value : seed_count text ≡ Some seeds
+
+sample_by : (command text : List ℕ) (seeds : ℕ) (b : Bool) → bytes_eq command (keyword_text keyword.Sample) ≡ b → cond b (seed_count text) None ≡ Some seeds → AsksSample (command ∷ text ∷ []) seeds
+sample_by command text seeds true same is = record { text = text; are = ap (λ (w : List ℕ). w ∷ text ∷ []) (same_bytes command (keyword_text keyword.Sample) same); value = is }
+sample_by command text seeds false same is = absurd (none-some seeds is)
+
+pub sample_words : (words : List (List ℕ)) (seeds : ℕ) → sample_number words ≡ Some seeds → AsksSample words seeds
+unfolding sample_number
+sample_words [] seeds is = absurd (none-some seeds is)
+sample_words (command ∷ []) seeds is = absurd (none-some seeds is)
+sample_words (command ∷ text ∷ []) seeds is = sample_by command text seeds (bytes_eq command (keyword_text keyword.Sample)) refl is
+sample_words (command ∷ text ∷ next ∷ words) seeds is = absurd (none-some seeds is)
+
+-- a number of seeds is from 1 to 10,000
+within_by : (n seeds : ℕ) (b : Bool) → (nat_le 1 n && nat_le n 10000) ≡ b → cond b (Some n) None ≡ Some seeds → (1 ≤ seeds) × (seeds ≤ 10000)
+within_by n seeds true within is =
+    let parts = and_parts (nat_le 1 n) (nat_le n 10000) within in
+    subst (λ (k : ℕ). (1 ≤ k) × (k ≤ 10000)) (same_Some n seeds is) (leb-true 1 n parts.0, leb-true n 10000 parts.1)
+within_by n seeds false within is = absurd (none-some seeds is)
+
+count_within : (given : Option ℕ) (seeds : ℕ) → option_and_then (λ n. cond (nat_le 1 n && nat_le n 10000) (Some n) None) given ≡ Some seeds → (1 ≤ seeds) × (seeds ≤ 10000)
+count_within None seeds is = absurd (none-some seeds is)
+count_within (Some n) seeds is = within_by n seeds (nat_le 1 n && nat_le n 10000) refl is
+
+pub sample_within : (words : List (List ℕ)) (seeds : ℕ) → sample_number words ≡ Some seeds → (1 ≤ seeds) × (seeds ≤ 10000)
+unfolding seed_count
+sample_within words seeds asked = let parts = sample_words words seeds asked in count_within (numeral parts.text) seeds parts.value
+
 -- words that name a job name no other
 pub names_job : (words : List (List ℕ)) (job : Job) → Asks words job → job_asked words ≡ Some job
-unfolding run_options is_asked demo_number keyword_text
+unfolding run_options is_asked demo_number sample_number keyword_text
 names_job words (Run options) asks =
-    ap (λ (o : Option RunOptions). option_map_or (λ numbers. Some (Run numbers)) o (if is_asked keyword.Replay words then Some Replay else if is_asked keyword.Check words then Some Check else if is_asked keyword.Points words then Some Points else option_map (λ number. Demo number) (demo_number words))) asks
+    ap (λ (o : Option RunOptions). option_map_or (λ numbers. Some (Run numbers)) o (if is_asked keyword.Replay words then Some Replay else if is_asked keyword.Check words then Some Check else if is_asked keyword.Points words then Some Points else option_map_or (λ number. Some (Demo number)) (demo_number words) (option_map (λ seeds. Sample seeds) (sample_number words)))) asks
 names_job words Replay asks = ap job_asked (asked_is keyword.Replay words asks)
 names_job words Check asks = ap job_asked (asked_is keyword.Check words asks)
 names_job words Points asks = ap job_asked (asked_is keyword.Points words asks)
 names_job words (Demo number) asks =
     let parts = demo_words words number asks in
-    ap job_asked parts.are ∙ ap (λ (o : Option ℕ). option_map (λ n. Demo n) o) parts.value
+    ap job_asked parts.are ∙ ap (λ (o : Option ℕ). option_map_or (λ n. Some (Demo n)) o None) parts.value
+names_job words (Sample seeds) asks =
+    let parts = sample_words words seeds asks in
+    ap job_asked parts.are ∙ ap (λ (o : Option ℕ). option_map (λ n. Sample n) o) parts.value
 
 -- the options of a job, if it is a run
 abbrev options_in : Option Job → Option RunOptions
 options_in (Some (Run options)) = Some options
 options_in _ = None
 
-run_asked_by : (asked : Option RunOptions) (replay check points : Bool) (number : Option ℕ) (options : RunOptions)
-    → option_map_or (λ numbers. Some (Run numbers)) asked (if replay then Some Replay else if check then Some Check else if points then Some Points else option_map (λ n. Demo n) number) ≡ Some (Run options) → asked ≡ Some options
-run_asked_by (Some numbers) replay check points number options is = ap options_in is
-run_asked_by None true check points number options is = ap options_in is
-run_asked_by None false true points number options is = ap options_in is
-run_asked_by None false false true number options is = ap options_in is
-run_asked_by None false false false None options is = ap options_in is
-run_asked_by None false false false (Some n) options is = ap options_in is
+run_asked_by : (asked : Option RunOptions) (replay check points : Bool) (number seeds : Option ℕ) (options : RunOptions)
+    → option_map_or (λ numbers. Some (Run numbers)) asked (if replay then Some Replay else if check then Some Check else if points then Some Points else option_map_or (λ n. Some (Demo n)) number (option_map (λ n. Sample n) seeds)) ≡ Some (Run options) → asked ≡ Some options
+run_asked_by (Some numbers) replay check points number seeds options is = ap options_in is
+run_asked_by None true check points number seeds options is = ap options_in is
+run_asked_by None false true points number seeds options is = ap options_in is
+run_asked_by None false false true number seeds options is = ap options_in is
+run_asked_by None false false false None None options is = ap options_in is
+run_asked_by None false false false None (Some k) options is = ap options_in is
+run_asked_by None false false false (Some n) seeds options is = ap options_in is
 
 -- words that name a run give its options
 pub run_asked : (words : List (List ℕ)) (options : RunOptions) → job_asked words ≡ Some (Run options) → run_options words ≡ Some options
-run_asked words options named = run_asked_by (run_options words) (is_asked keyword.Replay words) (is_asked keyword.Check words) (is_asked keyword.Points words) (demo_number words) options named
+run_asked words options named = run_asked_by (run_options words) (is_asked keyword.Replay words) (is_asked keyword.Check words) (is_asked keyword.Points words) (demo_number words) (sample_number words) options named
 
 -- the job reads the input
 abbrev pub NeedsInput : Job → Type 0
@@ -111,27 +150,32 @@ NeedsInput Replay = Unit {0}
 NeedsInput Check = Unit {0}
 NeedsInput Points = ⊥
 NeedsInput (Demo number) = ⊥
+NeedsInput (Sample seeds) = Unit {0}
 
--- the options that words give have a configuration, workers and turns within the limits
+-- the options that words give have a configuration, workers and turns within the limits, and so has a number of seeds
 pub has_input : (words : List (List ℕ)) (job : Job) → Asks words job → NeedsInput job → HasInput job
 has_input words (Run options) asks needs = (run_is_within words options asks, run_has_workers words options asks)
 has_input words Replay asks needs = tt
 has_input words Check asks needs = tt
 has_input words Points asks needs = needs
 has_input words (Demo number) asks needs = needs
+has_input words (Sample seeds) asks needs = sample_within words seeds asks
 
 -- words that name a job with an input need one
 pub job_needs_input : (words : List (List ℕ)) (job : Job) → Asks words job → HasInput job → needs_input words ≡ true
-unfolding run_options is_asked keyword_text
-job_needs_input words (Run options) asks has = ap (λ (o : Option RunOptions). is_some o || is_asked keyword.Replay words || is_asked keyword.Check words) asks
+unfolding run_options is_asked sample_number keyword_text
+job_needs_input words (Run options) asks has = ap (λ (o : Option RunOptions). is_some o || is_asked keyword.Replay words || is_asked keyword.Check words || asks_sample words) asks
 job_needs_input words Replay asks has = ap needs_input (asked_is keyword.Replay words asks)
 job_needs_input words Check asks has = ap needs_input (asked_is keyword.Check words asks)
 job_needs_input words Points asks has = absurd has
 job_needs_input words (Demo number) asks has = absurd has
+job_needs_input words (Sample seeds) asks has =
+    let parts = sample_words words seeds asks in
+    ap needs_input parts.are ∙ ap (λ (o : Option ℕ). is_some o) parts.value
 
 -- `points` needs none, and is accepted
 pub points_need_none : (words : List (List ℕ)) → is_asked keyword.Points words ≡ true → needs_input words ≡ false
-unfolding run_options is_asked keyword_text
+unfolding run_options is_asked sample_number keyword_text
 points_need_none words asked = ap needs_input (asked_is keyword.Points words asked)
 
 pub points_are_no_demo : (words : List (List ℕ)) → is_asked keyword.Points words ≡ true → asks_demo words ≡ false
@@ -174,6 +218,11 @@ pub part_of_demo : (words : List (List ℕ)) (input : List ℕ) (number : ℕ) �
 unfolding script_part is_asked
 part_of_demo words input number asked = ap (λ (w : List (List ℕ)). script_part w input) (demo_words words number asked).are
 
+-- and of that of `sample`
+pub part_of_sample : (words : List (List ℕ)) (input : List ℕ) (seeds : ℕ) → sample_number words ≡ Some seeds → script_part words input ≡ input
+unfolding script_part is_asked
+part_of_sample words input seeds asked = ap (λ (w : List (List ℕ)). script_part w input) (sample_words words seeds asked).are
+
 -- the script's part of the input of a job
 pub part_of_job : (words : List (List ℕ)) (job : Job) (input : List ℕ) → Asks words job → script_part words input ≡ take (parts_of_job job input).0 input
 unfolding script_part is_asked keyword_text
@@ -182,6 +231,7 @@ part_of_job words Replay input asks = ap (λ (w : List (List ℕ)). script_part 
 part_of_job words Check input asks = part_of_check words input asks ∙ sym (take_all (length input) input (le_refl _))
 part_of_job words Points input asks = part_of_points words input asks ∙ sym (take_all (length input) input (le_refl _))
 part_of_job words (Demo number) input asks = part_of_demo words input number asks ∙ sym (take_all (length input) input (le_refl _))
+part_of_job words (Sample seeds) input asks = part_of_sample words input seeds asks ∙ sym (take_all (length input) input (le_refl _))
 
 -- what ends where the input was split is the script's part
 pub is_part : (words : List (List ℕ)) (job : Job) (input : List ℕ) (parts : ℕ × ℕ) → Asks words job → parts ≡ parts_of_job job input → take parts.0 input ≡ script_part words input

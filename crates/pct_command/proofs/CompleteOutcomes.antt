@@ -11,7 +11,7 @@ use Rattle.pct_command.specs.declared.answers.Answer.{Answer}
 use Rattle.pct_command.specs.declared.status.Status.{Status}
 use Rattle.pct_command.specs.declared.status.Status.TheVariants as status
 use Rattle.pct_command.specs.Status.{code_of, IsAnswered}
-use Rattle.pct_command.specs.Command.{Outside, Decides, Answers, HasLegalSchedule, IsValid, IsComplete}
+use Rattle.pct_command.specs.Command.{CommandOutcome, Other, Sampled, Outside, Decides, Answers, HasLegalSchedule, IsValid, IsComplete}
 use Rattle.pct_command.specs.Answer.{AnswersRead, status_of_answer, text_of_answer}
 use Rattle.pct_command.proofs.Scripts.{spelled_or_fault}
 
@@ -49,7 +49,7 @@ not_illegal input script other config entries entry_number valid same read illeg
     ∙ illegal)
 
 -- an input that is not refused has an outcome with another code
-pub not_refused : (words : List (List ℕ)) (input : List ℕ) (schedule : List Entry) (code : ℕ) (text : List ℕ) → is_accepted words ≡ true → IsValid words input → Outcome words input schedule code text → code < 5
+not_refused : (words : List (List ℕ)) (input : List ℕ) (schedule : List Entry) (code : ℕ) (text : List ℕ) → is_accepted words ≡ true → IsValid words input → Outcome words input schedule code text → code < 5
 not_refused words input schedule code text accepted valid (outcome.WordsRefused refuses) = absurd (true≢false (sym accepted ∙ refuses.refused))
 not_refused words input schedule code text accepted valid (outcome.InputRefused refuses) = absurd (omega (arith, valid.fits, refuses.too_long))
 not_refused words input schedule code text accepted valid (outcome.ScriptRefused refuses) = absurd (spelled_or_fault _ valid.script refuses.line refuses.why valid.spelled refuses.first)
@@ -63,6 +63,11 @@ not_refused words input schedule code text accepted valid (outcome.Ran runs) = r
 not_refused words input schedule code text accepted valid (outcome.Checked checks) = omega (arith, checks.code_is)
 not_refused words input schedule code text accepted valid (outcome.PointsWritten written) = omega (arith, written.code_is)
 not_refused words input schedule code text accepted valid (outcome.Demonstrated written) = omega (arith, written.code_is)
+
+-- so has the outcome of `sample`
+pub valid_below_five : (words : List (List ℕ)) (input : List ℕ) (schedule : List Entry) (code : ℕ) (text : List ℕ) → is_accepted words ≡ true → IsValid words input → CommandOutcome words input schedule code text → code < 5
+valid_below_five words input schedule code text accepted valid (Sampled samples) = omega (arith, samples.code_is)
+valid_below_five words input schedule code text accepted valid (Other other) = not_refused words input schedule code text accepted valid other
 
 -- ---- all that a source had left
 
@@ -83,7 +88,7 @@ front_length (Some xs) (Some ys) given left prefix has =
 pub complete : (words : List (List ℕ)) (before after : Outside) (a : Answer) → AnswersRead words before.left after.left a → Appends before.written after.written (text_of_answer a) → IsComplete words before after (status_of_answer a)
 complete words before after a read wrote = λ input has no_read_fault no_write_fault.
     let answer = read.of_all input has in
-    inr (record { text = text_of_answer a; answer = answer; wrote = wrote }, λ accepted valid. not_refused words input answer.schedule _ _ accepted valid answer.is_outcome)
+    inr (record { text = text_of_answer a; answer = answer; wrote = wrote }, λ accepted valid. valid_below_five words input answer.schedule _ _ accepted valid answer.is_outcome)
 
 -- ---- what is promised of a status
 

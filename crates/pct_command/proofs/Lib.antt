@@ -5,3 +5,4 @@ pub mod CompleteOutcomes
 pub mod OneOutcome
 pub mod NonEmptyTexts
 pub mod OneAnswer
+pub mod FirstSeeds

@@ -7,11 +7,11 @@ use Rattle.pct_scheduled_run.specs.SeedSchedules.{SeedSchedule}
 use Rattle.pct_scheduled_run.proofs.OneSchedule.{seed_schedule_is_one}
 use Rattle.pct_command.specs.declared.words.Job.{Job}
 use Rattle.pct_command.specs.declared.words.Job.TheVariants as job
-use Rattle.pct_command.specs.Command.{AnswersAreOne, IsReportOf}
+use Rattle.pct_command.specs.Command.{AnswersAreOne, CommandOutcome, HasOneWorker, IsReportOf, Other, Sampled}
 use Rattle.pct_command.specs.Words.{job_asked}
 use Rattle.pct_command.proofs.AskedWords.{run_asked}
 use Rattle.pct_command.proofs.CompleteOutcomes.{verdict_code}
-use Rattle.pct_command.proofs.OneOutcome.{by_run, run_of, by_job, found, found_once}
+use Rattle.pct_command.proofs.OneOutcome.{by_run, run_of, by_job, found, found_once, sample_has_no_other, samples_are_one}
 
 -- the code of a report is that of a verdict
 run_below_five : (script : Script) (config : Config) (entries : List Entry) (after : Option Run) (reported : Option (List ℕ)) (code : ℕ) (text : List ℕ) → by_run script config entries after reported ≡ Some (code, text) → code < 5
@@ -23,7 +23,7 @@ run_below_five script config entries (Some after) (Some told) code text is =
 
 module _ (words : List (List ℕ)) (input : List ℕ) (script : Script) (spelled : Spells (script_part words input) script) where
   -- the report of a `run` with one worker has the schedule of the seed
-  seeded : (options : RunOptions) (schedule : List Entry) (code : ℕ) (text : List ℕ) → by_job (Some (job.Run options)) input schedule script ≡ Some (code, text)
+  pub seeded : (options : RunOptions) (schedule : List Entry) (code : ℕ) (text : List ℕ) → by_job (Some (job.Run options)) input schedule script ≡ Some (code, text)
       → (code < 5 → IsReportOf (Some (job.Run options)) words input schedule code text) → options.workers ≡ 1 → SeedSchedule script (config_for script options.config) options.seed options.turns schedule
   seeded options schedule code text is reports lone =
       let config : Config = config_for script options.config in
@@ -42,8 +42,19 @@ module _ (words : List (List ℕ)) (input : List ℕ) (script : Script) (spelled
       some_pair_parts code other_code text other_text (sym a ∙ ap (λ (xs : List Entry). run_of script (config_for script options.config) xs) same ∙ b)
   answer_of_job _ one other code other_code text other_text a b reports other_reports lone = some_pair_parts code other_code text other_text (sym a ∙ b)
 
+outcomes_with : (words : List (List ℕ)) (input : List ℕ) (one other : List Entry) (code other_code : ℕ) (text other_text : List ℕ) → HasOneWorker words
+    → (code < 5 → IsReportOf (job_asked words) words input one code text) → (other_code < 5 → IsReportOf (job_asked words) words input other other_code other_text)
+    → CommandOutcome words input one code text → CommandOutcome words input other other_code other_text → (code ≡ other_code) × (text ≡ other_text)
+outcomes_with words input one other code other_code text other_text lone reports other_reports (Sampled a) (Sampled b) = samples_are_one words input code other_code text other_text a b
+outcomes_with words input one other code other_code text other_text lone reports other_reports (Sampled a) (Other b) =
+    absurd (sample_has_no_other words input other code other_code text other_text a b)
+outcomes_with words input one other code other_code text other_text lone reports other_reports (Other a) (Sampled b) =
+    absurd (sample_has_no_other words input one other_code code other_text text b a)
+outcomes_with words input one other code other_code text other_text lone reports other_reports (Other a) (Other b) =
+    found_once words input one other code other_code text other_text
+    (λ script spells x y. answer_of_job words input script spells (job_asked words) one other code other_code text other_text x y reports other_reports (λ options named. lone options (run_asked words options named)))
+    (found words input one code text a) (found words input other other_code other_text b)
+
 pub answer_is_one : AnswersAreOne
 answer_is_one words input code other_code text other_text lone a b =
-    found_once words input a.schedule b.schedule code other_code text other_text
-    (λ script spells one other. answer_of_job words input script spells (job_asked words) a.schedule b.schedule code other_code text other_text one other a.is_report b.is_report (λ options named. lone options (run_asked words options named)))
-    (found words input a.schedule code text a.is_outcome) (found words input b.schedule other_code other_text b.is_outcome)
+    outcomes_with words input a.schedule b.schedule code other_code text other_text lone a.is_report b.is_report a.is_outcome b.is_outcome

@@ -4,8 +4,8 @@ use Rattle.pct_names.proofs.Names.{Err, false, Fault, first_fault, first_illegal
 use Rattle.pct_names.proofs.Names.{le_refl, length, line_text, List, nat_lt, needs_input, None, none-some, Ok, Option, option_map, Outcome}
 use Rattle.pct_names.proofs.Names.{points_text, refl, refused_entry, refused_input, refused_schedule, refused_script, refused_words, report}
 use Rattle.pct_names.proofs.Names.{Run, run, same_Some, sched_of, Schedule, schedule_part, Script, script_part, Some, some_pair_parts}
-use Rattle.pct_names.proofs.Names.{Spells, subst, summary_of, sym, take-length, true, verdict_of, ℕ, ◌∙◌, ◌≡◌, ◌≤◌}
-use Rattle.std.proofs.lemmas.Bool.{lt-ltb}
+use Rattle.pct_names.proofs.Names.{sample_number, Spells, subst, summary_of, sym, take-length, text_of, true, verdict_of, ℕ, ◌∙◌, ◌≡◌, ◌≤◌}
+use Rattle.std.proofs.lemmas.Bool.{lt-ltb, true≢false}
 use Rattle.pct_model.specs.declared.keyword.Keyword.TheVariants as keyword
 use Rattle.pct_model.specs.Outcome as outcome
 use Rattle.pct_history.proofs.IllegalEntries.{follows-all}
@@ -14,8 +14,13 @@ use Rattle.pct_grammar.proofs.CanonSpells.{canon_spells}
 use Rattle.pct_command.specs.declared.words.Job.{Job}
 use Rattle.pct_command.specs.declared.words.Job.TheVariants as job
 use Rattle.pct_command.specs.Words.{Asks, HasInput, job_asked}
-use Rattle.pct_command.proofs.AskedWords.{has_input, names_job, job_needs_input, points_need_none, demo_needs_none, demo_is_no_points, none_asked, part_of_run, part_of_check}
+use Rattle.pct_command.proofs.AskedWords.{has_input, names_job, job_needs_input, points_need_none, demo_needs_none, demo_is_no_points, none_asked, part_of_run, part_of_check, part_of_sample, sample_within}
 use Rattle.pct_demo.proofs.CountedRuns.{counted_is_one}
+use Rattle.pct_sample.specs.declared.tally.Tally.{Tally}
+use Rattle.pct_sample.specs.Tallies.{TallyOf}
+use Rattle.pct_sample.specs.TallyTexts.{tally_lines}
+use Rattle.pct_sample.proofs.OneTally.{tallies_are_one}
+use Rattle.pct_command.specs.Command.{CommandOutcome, Other, Sampled, Samples}
 
 -- ---- legal runs
 
@@ -68,6 +73,7 @@ by_job (Some job.Replay) input schedule script = by_schedule script (sched_of (s
 by_job (Some job.Check) input schedule script = Some (0, canon script)
 by_job (Some job.Points) input schedule script = None
 by_job (Some (job.Demo number)) input schedule script = None
+by_job (Some (job.Sample seeds)) input schedule script = None
 by_job None input schedule script = None
 
 -- the code and the text are these
@@ -95,7 +101,7 @@ with_input words input too_long needs long =
     ∙ ap (λ (b : Bool). by_checks true (is_asked keyword.Points words) (asks_demo words) b (first_fault (script_part words input))) long
 
 -- an input within the limit is refused for its script alone
-fitting : (words : List (List ℕ)) (input : List ℕ) (fault : Option Fault) → needs_input words ≡ true → length input ≤ 16777216 → first_fault (script_part words input) ≡ fault → decided_of words input ≡ by_checks true (is_asked keyword.Points words) (asks_demo words) false fault
+pub fitting : (words : List (List ℕ)) (input : List ℕ) (fault : Option Fault) → needs_input words ≡ true → length input ≤ 16777216 → first_fault (script_part words input) ≡ fault → decided_of words input ≡ by_checks true (is_asked keyword.Points words) (asks_demo words) false fault
 fitting words input fault needs fits first =
     with_input words input false needs (le-ltb 16777216 (length input) fits)
     ∙ ap (λ (f : Option Fault). by_checks true (is_asked keyword.Points words) (asks_demo words) false f) first
@@ -188,7 +194,44 @@ module _ (words : List (List ℕ)) (input : List ℕ) (schedule schedules : List
   found_once (Spelled none script spells a) (Decided b) = absurd (none-some (other, told) (sym none ∙ b))
   found_once (Spelled none script spells a) (Spelled _ another also b) = by_jobs script spells a (ap (λ (s : Script). by_job (job_asked words) input schedules s) (spells_one_script _ script another spells also) ∙ b)
 
-pub outcome_is_one : (words : List (List ℕ)) (input : List ℕ) (schedule : List Entry) (code other : ℕ) (text told : List ℕ) → Outcome words input schedule code text → Outcome words input schedule other told → (code ≡ other) × (text ≡ told)
-outcome_is_one words input schedule code other text told a b =
+-- ---- `sample`
+
+-- an input has one script, that has one tally for each number of seeds
+pub samples_are_one : (words : List (List ℕ)) (input : List ℕ) (code other : ℕ) (text told : List ℕ) → Samples words input code text → Samples words input other told → (code ≡ other) × (text ≡ told)
+samples_are_one words input code other text told a b =
+    let number : a.number ≡ b.number = same_Some a.number b.number (sym a.accepted ∙ b.accepted) in
+    let script = spells_one_script input a.script b.script a.spelled b.spelled in
+    let counted : TallyOf b.script b.number a.tally = subst (λ (s : Script). TallyOf s b.number a.tally) script (subst (λ (n : ℕ). TallyOf a.script n a.tally) number a.counted) in
+    let tally : a.tally ≡ b.tally = tallies_are_one b.script b.number a.tally b.tally counted b.counted in (
+      a.code_is ∙ sym b.code_is,
+      a.text_is ∙ ap (λ (n : ℕ). text_of (tally_lines n a.tally)) number ∙ ap (λ (t : Tally). text_of (tally_lines b.number t)) tally ∙ sym b.text_is,
+    )
+
+-- words that ask for a number of seeds name no other outcome of a script
+none_found : (words : List (List ℕ)) (input : List ℕ) (schedule : List Entry) (other : ℕ) (told : List ℕ) (seeds : ℕ) → sample_number words ≡ Some seeds → needs_input words ≡ true → decided_of words input ≡ None → Found words input schedule other told → ⊥
+none_found words input schedule other told seeds asked needs undecided (Decided is) = none-some (other, told) (sym undecided ∙ is)
+none_found words input schedule other told seeds asked needs undecided (Counted _ d) = true≢false (sym needs ∙ demo_needs_none words d.number d.accepted)
+none_found words input schedule other told seeds asked needs undecided (Spelled _ script spells is) =
+    none-some (other, told) (sym (ap (λ (o : Option Job). by_job o input schedule script) (names_job words (job.Sample seeds) asked)) ∙ is)
+
+-- where it has an outcome there is no other
+pub sample_has_no_other : (words : List (List ℕ)) (input : List ℕ) (schedule : List Entry) (code other : ℕ) (text told : List ℕ) → Samples words input code text → Outcome words input schedule other told → ⊥
+sample_has_no_other words input schedule code other text told s outcome =
+    let named : Job = job.Sample s.number in
+    let needs : needs_input words ≡ true = job_needs_input words named s.accepted (sample_within words s.number s.accepted) in
+    let spells : Spells (script_part words input) s.script = subst (λ (part : List ℕ). Spells part s.script) (sym (part_of_sample words input s.number s.accepted)) s.spelled in
+    let undecided : decided_of words input ≡ None = fitting words input None needs s.fits (spelled_is_faultless _ s.script spells) in
+    none_found words input schedule other told s.number s.accepted needs undecided (found words input schedule other told outcome)
+
+-- ---- every command
+
+outcome_alone : (words : List (List ℕ)) (input : List ℕ) (schedule : List Entry) (code other : ℕ) (text told : List ℕ) → Outcome words input schedule code text → Outcome words input schedule other told → (code ≡ other) × (text ≡ told)
+outcome_alone words input schedule code other text told a b =
     found_once words input schedule schedule code other text told (λ script spells one also. some_pair_parts code other text told (sym one ∙ also))
     (found words input schedule code text a) (found words input schedule other told b)
+
+pub outcome_is_one : (words : List (List ℕ)) (input : List ℕ) (schedule : List Entry) (code other : ℕ) (text told : List ℕ) → CommandOutcome words input schedule code text → CommandOutcome words input schedule other told → (code ≡ other) × (text ≡ told)
+outcome_is_one words input schedule code other text told (Sampled a) (Sampled b) = samples_are_one words input code other text told a b
+outcome_is_one words input schedule code other text told (Sampled a) (Other b) = absurd (sample_has_no_other words input schedule code other text told a b)
+outcome_is_one words input schedule code other text told (Other a) (Sampled b) = absurd (sample_has_no_other words input schedule other code told text b a)
+outcome_is_one words input schedule code other text told (Other a) (Other b) = outcome_alone words input schedule code other text told a b

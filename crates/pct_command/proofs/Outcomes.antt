@@ -4,7 +4,7 @@ use Rattle.pct_names.proofs.Names.{false, first_illegal, FirstFault, generated_t
 use Rattle.pct_names.proofs.Names.{List, needs_input, Ok, Option, option_map, option_map_or, Outcome, ParseWhy, points_text, refl}
 use Rattle.pct_names.proofs.Names.{refused_entry, refused_input, refused_schedule, refused_script, refused_words, report, report_of, Run}
 use Rattle.pct_names.proofs.Names.{run_options, RunOptions, sched_of, schedule_part, ScheduleWhy, Script, script_part, Some, Spells, subst}
-use Rattle.pct_names.proofs.Names.{summary_of, sym, true, Verdict, verdict_of, ℕ, ◌∙◌, ◌∷◌, ◌≡◌, ◌≢◌, ◌≤◌}
+use Rattle.pct_names.proofs.Names.{sample_number, summary_of, sym, text_of, true, Verdict, verdict_of, ℕ, ◌∙◌, ◌∷◌, ◌≡◌, ◌≢◌, ◌≤◌}
 use Rattle.pct_model.specs.declared.stop.Verdict.TheVariants as verdict
 use Rattle.pct_model.specs.declared.keyword.Keyword.TheVariants as keyword
 use Rattle.pct_demo.specs.CountedRuns.{IsCountedEngine}
@@ -13,15 +13,19 @@ use Rattle.pct_schedule_laws.proofs.ReadBack.{report_is_read_back}
 use Rattle.pct_grammar.proofs.Scripts.{spells_one_script}
 use Rattle.pct_engine.specs.EngineStates.{EngineValue, IsRunOf}
 use Rattle.pct_engine.proofs.EngineLaws.{keeps_laws}
+use Rattle.pct_sample.specs.declared.tally.Tally.{Tally}
+use Rattle.pct_sample.specs.FirstSeeds.{AreFirstSeeds}
+use Rattle.pct_sample.specs.Tallies.{TallyOf}
+use Rattle.pct_sample.specs.TallyTexts.{tally_lines}
 use Rattle.pct_shared.specs.Schedules.{WorkersSchedule}
 use Rattle.pct_command.specs.declared.answers.Answer.TheVariants as answer
 use Rattle.pct_command.specs.declared.words.Job.{Job}
-use Rattle.pct_command.specs.declared.words.Job.TheVariants.{Run as run_job, Replay, Check, Points, Demo}
+use Rattle.pct_command.specs.declared.words.Job.TheVariants.{Run as run_job, Replay, Check, Points, Demo, Sample}
 use Rattle.pct_command.specs.Status.{code_of}
 use Rattle.pct_command.specs.Words.{Asks, job_asked}
-use Rattle.pct_command.specs.Command.{IsClosedRun, IsReplayed, IsLawful, IsReportOf, IsAnswer, options_for}
+use Rattle.pct_command.specs.Command.{Other, Sampled, IsClosedRun, IsReplayed, IsLawful, IsReportOf, IsAnswer, options_for}
 use Rattle.pct_command.specs.Answer.{HasScript, status_of_verdict, verdict_of_run, text_of_run, summary_of_run, code_of_answer}
-use Rattle.pct_command.proofs.AskedWords.{names_job, part_of_run, part_of_check, replay_asks_replay}
+use Rattle.pct_command.proofs.AskedWords.{names_job, part_of_run, part_of_check, part_of_sample, replay_asks_replay}
 
 -- ---- reports
 
@@ -143,7 +147,7 @@ run-with_options words input options script entries asked has worked =
     let closed_run : IsClosedRun options words input entries (code_of_answer (answer.Ran engine)) (text_of_run engine) = record { script = script; spelled = has.spelled; read_back = read_back; worked = worked; closed = closed_code (verdict_of_run engine) closed } in
     record {
       schedule = entries;
-      is_outcome = run-outcome words input options script entries whole.after asked has whole.is_run;
+      is_outcome = Other (run-outcome words input options script entries whole.after asked has whole.is_run);
       is_report = λ below. of-job words (run_job options) input entries _ _ asked (closed_run, (is-replayed words input engine whole.after has read_back whole.is_run, is-lawful words input engine whole.after has whole.is_run));
     }
 
@@ -168,7 +172,7 @@ replay-read words input engine after asked has read is_run =
     let read_back = read-back engine after is_run in
     record {
       schedule = [];
-      is_outcome = replay-outcome words input [] engine after asked has read is_run;
+      is_outcome = Other (replay-outcome words input [] engine after asked has read is_run);
       is_report = λ below. of-job words Replay input [] _ _ asked (read_back ∙ sym read, (is-replayed words input engine after has read_back is_run, is-lawful words input engine after has is_run));
     }
 
@@ -184,7 +188,7 @@ replay-answer words input script config entries engine asked has read same runs 
 pub check-answer : (words : List (List ℕ)) (input : List ℕ) (script : Script) → is_asked keyword.Check words ≡ true → HasScript words input script → IsAnswer words input 0 (canon script)
 check-answer words input script asked has = record {
   schedule = [];
-  is_outcome = outcome.Checked (record { accepted = asked; fits = has.fits; script = script; spelled = subst (λ (part : List ℕ). Spells part script) (part_of_check words input asked) has.spelled; code_is = refl; text_is = refl });
+  is_outcome = Other (outcome.Checked (record { accepted = asked; fits = has.fits; script = script; spelled = subst (λ (part : List ℕ). Spells part script) (part_of_check words input asked) has.spelled; code_is = refl; text_is = refl }));
   is_report = λ below. of-job words Check input [] _ _ asked tt;
 }
 
@@ -192,7 +196,7 @@ check-answer words input script asked has = record {
 pub points-answer : (words : List (List ℕ)) (input : List ℕ) → is_asked keyword.Points words ≡ true → IsAnswer words input 0 points_text
 points-answer words input asked = record {
   schedule = [];
-  is_outcome = outcome.PointsWritten (record { accepted = asked; code_is = refl; text_is = refl });
+  is_outcome = Other (outcome.PointsWritten (record { accepted = asked; code_is = refl; text_is = refl }));
   is_report = λ below. of-job words Points input [] _ _ asked tt;
 }
 
@@ -208,15 +212,35 @@ demo-answer words input number script engine asked generated ran =
     ap (summary_of_run number) ran.engine_is ∙ run-summary number (record { script = script; config = default_config; history = engine.history }) ran.after ran.counted.is_run in
     record {
       schedule = [];
-      is_outcome = outcome.Demonstrated (record { number = number; accepted = asked; script = script; generated = generated; entries = engine.history; after = ran.after; is_run = ran.counted; code_is = refl; text_is = same });
+      is_outcome = Other (outcome.Demonstrated (record { number = number; accepted = asked; script = script; generated = generated; entries = engine.history; after = ran.after; is_run = ran.counted; code_is = refl; text_is = same }));
       is_report = λ below. of-job words (Demo number) input [] _ _ asked tt;
     }
+
+-- the tally of the runs of the script is the answer of `sample`
+pub sample-answer : (words : List (List ℕ)) (input : List ℕ) (seeds : ℕ) (script : Script) (tally : Tally)
+    → sample_number words ≡ Some seeds → HasScript words input script → TallyOf script seeds tally → AreFirstSeeds script seeds tally → IsAnswer words input 0 (text_of (tally_lines seeds tally))
+sample-answer words input seeds script tally asked has counted first = record {
+  schedule = [];
+  is_outcome = Sampled (record {
+    number = seeds;
+    accepted = asked;
+    fits = has.fits;
+    script = script;
+    spelled = subst (λ (part : List ℕ). Spells part script) (part_of_sample words input seeds asked) has.spelled;
+    tally = tally;
+    counted = counted;
+    first = first;
+    code_is = refl;
+    text_is = refl;
+  });
+  is_report = λ below. of-job words (Sample seeds) input [] _ _ asked tt;
+}
 
 -- ---- refusals
 
 -- a refusal is no report
 refusal : (words : List (List ℕ)) (input : List ℕ) (code : ℕ) (text : List ℕ) → 4 < code → Outcome words input [] code text → IsAnswer words input code text
-refusal words input code text above is_outcome = record { schedule = []; is_outcome = is_outcome; is_report = λ below. absurd (omega (arith, above, below)) }
+refusal words input code text above is_outcome = record { schedule = []; is_outcome = Other is_outcome; is_report = λ below. absurd (omega (arith, above, below)) }
 
 pub words-answer : (words : List (List ℕ)) (input : List ℕ) → is_accepted words ≡ false → IsAnswer words input 5 (line_text refused_words)
 words-answer words input refused = refusal words input 5 _ (omega arith) (outcome.WordsRefused (record { refused = refused; code_is = refl; text_is = refl }))

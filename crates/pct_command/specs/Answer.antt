@@ -7,7 +7,7 @@ use Rattle.pct_model.specs.declared.limits.TheConstants.{MAX_INPUT}
 use Rattle.pct_model.specs.declared.script.Script.{Script}
 use Rattle.pct_model.specs.declared.stop.Verdict.{Verdict}
 use Rattle.pct_model.specs.declared.stop.Verdict.TheVariants as verdict
-use Rattle.pct_model.specs.Keywords.{line_text}
+use Rattle.pct_model.specs.Keywords.{line_text, text_of}
 use Rattle.pct_model.specs.Points.{points_text}
 use Rattle.pct_model.specs.Canon.{canon}
 use Rattle.pct_model.specs.Spells.{Spells}
@@ -16,6 +16,7 @@ use Rattle.pct_model.specs.Report.{report_of}
 use Rattle.pct_model.specs.Demo.{summary_of}
 use Rattle.pct_model.specs.Outcome.{needs_input, script_part, refused_words, refused_input, refused_script, refused_schedule, refused_entry}
 use Rattle.pct_engine.specs.EngineStates.{EngineValue}
+use Rattle.pct_sample.specs.TallyTexts.{tally_lines}
 use Rattle.pct_command.specs.declared.answers.Refusal.{Refusal}
 use Rattle.pct_command.specs.declared.answers.Refusal.TheVariants as refusal
 use Rattle.pct_command.specs.declared.answers.Answer.{Answer}
@@ -66,6 +67,7 @@ status_of_answer (answer.Ran engine) = status_of_verdict (verdict_of_run engine)
 status_of_answer (answer.Checked script) = status.Complete
 status_of_answer answer.Points = status.Complete
 status_of_answer (answer.Demonstrated number engine) = status.Complete
+status_of_answer (answer.Sampled seeds tally) = status.Complete
 
 -- the code of an answer
 abbrev pub code_of_answer : Answer → ℕ
@@ -79,14 +81,15 @@ line_of_refusal (refusal.Script line why) = refused_script line why
 line_of_refusal (refusal.Schedule line why) = refused_schedule line why
 line_of_refusal (refusal.Entry entry_number) = refused_entry entry_number
 
--- the text of an answer: the line of a refusal, the report of a run, the canonical text of a script, the table of points, or the
--- summary of a run
+-- the text of an answer: the line of a refusal, the report of a run, the canonical text of a script, the table of points, the summary of a
+-- run, or a tally
 abbrev pub text_of_answer : Answer → List ℕ
 text_of_answer (answer.Refused why) = line_text (line_of_refusal why)
 text_of_answer (answer.Ran engine) = text_of_run engine
 text_of_answer (answer.Checked script) = canon script
 text_of_answer answer.Points = points_text
 text_of_answer (answer.Demonstrated number engine) = summary_of_run number engine
+text_of_answer (answer.Sampled seeds tally) = text_of (tally_lines seeds tally)
 
 -- ---- the answer to a text
 

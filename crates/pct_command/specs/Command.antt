@@ -10,7 +10,7 @@ use Rattle.pct_model.specs.declared.schedule.Config.{Config}
 use Rattle.pct_model.specs.declared.schedule.Entry.{Entry}
 use Rattle.pct_model.specs.declared.keyword.Keyword.TheVariants as keyword
 use Rattle.pct_model.specs.Formats.{config_for}
-use Rattle.pct_model.specs.Keywords.{keyword_text}
+use Rattle.pct_model.specs.Keywords.{keyword_text, text_of}
 use Rattle.pct_model.specs.Spells.{Spells}
 use Rattle.pct_model.specs.Schedule.{sched_of}
 use Rattle.pct_laws.specs.Kept.{Kept}
@@ -18,7 +18,12 @@ use Rattle.pct_laws.specs.Laws.{Laws}
 use Rattle.pct_model.specs.Report.{report}
 use Rattle.pct_model.specs.Run.{Run, first_illegal, run}
 use Rattle.pct_model.specs.RunOptions.{run_options}
+use Rattle.pct_model.specs.Sample.{sample_number}
 use Rattle.pct_model.specs.Outcome.{is_asked, is_accepted, script_part, schedule_part, Outcome}
+use Rattle.pct_sample.specs.declared.tally.Tally.{Tally}
+use Rattle.pct_sample.specs.FirstSeeds.{AreFirstSeeds}
+use Rattle.pct_sample.specs.Tallies.{TallyOf}
+use Rattle.pct_sample.specs.TallyTexts.{tally_lines}
 use Rattle.pct_shared.specs.Schedules.{WorkersSchedule}
 use Rattle.pct_command.specs.declared.status.Status.{Status}
 use Rattle.pct_command.specs.declared.status.Status.TheVariants as status
@@ -39,6 +44,26 @@ pub record Outside : Type 0 where
 pub record Records (failed s : Status) (before after : ℕ) : Type 0 where
   pub error : s ≡ failed → Rose before after
   pub no_error : s ≢ failed → after ≡ before
+
+-- ---- outcomes
+
+-- `sample` with a number of seeds: the text is what is counted of the runs of the script under the seeds 1 to this number
+pub record Samples (words : List (List ℕ)) (input : List ℕ) (code : ℕ) (text : List ℕ) : Type 0 where
+  pub number : ℕ
+  pub accepted : sample_number words ≡ Some number
+  pub fits : length input ≤ MAX_INPUT
+  pub script : Script
+  pub spelled : Spells input script
+  pub tally : Tally
+  pub counted : TallyOf script number tally
+  pub first : AreFirstSeeds script number tally
+  pub code_is : code ≡ 0
+  pub text_is : text ≡ text_of (tally_lines number tally)
+
+-- the outcome of every command: that of `sample` for a script without a fault, or another outcome (Outcome.antt). The cases are disjoint
+pub data CommandOutcome (words : List (List ℕ)) (input : List ℕ) (schedule : List Entry) (code : ℕ) (text : List ℕ) : Type 0 where
+  Sampled : Samples words input code text → CommandOutcome words input schedule code text
+  Other : Outcome words input schedule code text → CommandOutcome words input schedule code text
 
 -- ---- what is written
 
@@ -89,12 +114,13 @@ IsReportOf (Some job.Replay) words input schedule code text = (sched_of text ≡
 IsReportOf (Some job.Check) words input schedule code text = Unit {0}
 IsReportOf (Some job.Points) words input schedule code text = Unit {0}
 IsReportOf (Some (job.Demo number)) words input schedule code text = Unit {0}
+IsReportOf (Some (job.Sample seeds)) words input schedule code text = Unit {0}
 IsReportOf None words input schedule code text = Unit {0}
 
 -- the code and the text are the outcome of the words and the input, and a report is that of the job that the words name
 pub record IsAnswer (words : List (List ℕ)) (input : List ℕ) (code : ℕ) (text : List ℕ) : Type 0 where
   pub schedule : List Entry
-  pub is_outcome : Outcome words input schedule code text
+  pub is_outcome : CommandOutcome words input schedule code text
   pub is_report : code < 5 → IsReportOf (job_asked words) words input schedule code text
 
 -- the whole text of the answer to the input was written, where the second argument says which code and text are an answer
@@ -183,7 +209,7 @@ IsComplete words before after s =
 abbrev pub OutcomesAreOne : Type 0
 OutcomesAreOne =
     (words : List (List ℕ)) (input : List ℕ) (schedule : List Entry) (code other_code : ℕ) (text other_text : List ℕ)
-    → Outcome words input schedule code text → Outcome words input schedule other_code other_text → (code ≡ other_code) × (text ≡ other_text)
+    → CommandOutcome words input schedule code text → CommandOutcome words input schedule other_code other_text → (code ≡ other_code) × (text ≡ other_text)
 
 -- the words do not ask for more than one worker
 abbrev pub HasOneWorker : List (List ℕ) → Type 0

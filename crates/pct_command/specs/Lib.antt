@@ -3,3 +3,4 @@ pub mod Status
 pub mod Words
 pub mod Command
 pub mod Answer
+pub mod FirstSeeds

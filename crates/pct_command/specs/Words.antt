@@ -1,14 +1,16 @@
 -- The command that the words of the program name.
-use Rattle.std.specs.Prelude.{◌≡◌, ℕ, true, if◌then◌else◌, Bool, ◌||◌, List, length, Option, Some, option_map}
+use Rattle.std.specs.Prelude.{◌≡◌, ℕ, ◌≤◌, true, if◌then◌else◌, Bool, ◌||◌, List, length, Option, Some, option_map}
 use Rattle.std.specs.Option.{option_map_or}
 use Rattle.pct_model.specs.declared.keyword.Keyword.TheVariants as keyword
+use Rattle.pct_model.specs.declared.limits.TheConstants.{MAX_SEEDS}
 use Rattle.pct_model.specs.Schedule.{replay_parts}
 use Rattle.pct_model.specs.Demo.{demo_number}
 use Rattle.pct_model.specs.Outcome.{is_asked, needs_input, asks_demo}
 use Rattle.pct_model.specs.Run.{is_config}
 use Rattle.pct_model.specs.RunOptions.{HasWorkers, run_options}
+use Rattle.pct_model.specs.Sample.{sample_number}
 use Rattle.pct_command.specs.declared.words.Job.{Job}
-use Rattle.pct_command.specs.declared.words.Job.TheVariants.{Run, Replay, Check, Points, Demo}
+use Rattle.pct_command.specs.declared.words.Job.TheVariants.{Run, Replay, Check, Points, Demo, Sample}
 
 -- the words name this job; `run` has the numbers of its options
 abbrev pub Asks : List (List ℕ) → Job → Type 0
@@ -17,6 +19,7 @@ Asks words Replay = is_asked keyword.Replay words ≡ true
 Asks words Check = is_asked keyword.Check words ≡ true
 Asks words Points = is_asked keyword.Points words ≡ true
 Asks words (Demo number) = demo_number words ≡ Some number
+Asks words (Sample seeds) = sample_number words ≡ Some seeds
 
 -- the job that the words name, if they are accepted
 abbrev pub job_asked : List (List ℕ) → Option Job
@@ -25,16 +28,17 @@ job_asked words =
     if is_asked keyword.Replay words then Some Replay
     else if is_asked keyword.Check words then Some Check
     else if is_asked keyword.Points words then Some Points
-    else option_map (λ number. Demo number) (demo_number words)
+    else option_map_or (λ number. Some (Demo number)) (demo_number words) (option_map (λ seeds. Sample seeds) (sample_number words))
     )
 
--- the job reads the input, and the configuration of a run, its workers and their turns are within the limits
+-- the job reads the input, and the configuration of a run, its workers and their turns, and a number of seeds are within the limits
 abbrev pub HasInput : Job → Type 0
 HasInput (Run options) = (is_config options.config ≡ true) × HasWorkers options
 HasInput Replay = Unit {0}
 HasInput Check = Unit {0}
 HasInput Points = ⊥
 HasInput (Demo number) = ⊥
+HasInput (Sample seeds) = (1 ≤ seeds) × (seeds ≤ MAX_SEEDS)
 
 -- where the script's part of an input ends, and where its schedule's part begins
 abbrev pub parts_of_job : Job → List ℕ → ℕ × ℕ
@@ -43,6 +47,7 @@ parts_of_job Replay input = replay_parts input
 parts_of_job Check input = (length input, length input)
 parts_of_job Points input = (length input, length input)
 parts_of_job (Demo number) input = (length input, length input)
+parts_of_job (Sample seeds) input = (length input, length input)
 
 -- the command that the words name takes memory: all that are accepted do, but `points`
 abbrev pub takes_memory : List (List ℕ) → Bool

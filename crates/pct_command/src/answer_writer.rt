@@ -14,9 +14,10 @@ use pct_io::{BufferedSink, Failed, Field, Sink, write_line};
 use pct_model::Keyword;
 use pct_printer::print;
 use pct_report::write_report;
+use pct_sample::write_tally;
 
 /// Writes an answer: the line of a refusal, the report of a run, the canonical text of a script, the table of cancellation points,
-/// or the summary of a run.
+/// the summary of a run, or a tally of runs.
 pub(crate) fn write_answer<K: Sink>(answer: &Answer, sink: &mut K) -> Result<(), Failed>
     ensures { Writes K.written K.errors K.inners sink.old sink.new (text_of_answer answer.now) result }
 {
@@ -26,6 +27,7 @@ pub(crate) fn write_answer<K: Sink>(answer: &Answer, sink: &mut K) -> Result<(),
         Answer::Checked(script) => print(script, sink),
         Answer::Points => write_points(sink),
         Answer::Demonstrated { number, engine } => write_summary(*number, engine, sink),
+        Answer::Sampled { seeds, tally } => write_tally(*seeds, tally, sink),
     }
 }
 

@@ -8,6 +8,7 @@ ghost use Rattle.pct_command.specs.Words.{Asks, HasInput, parts_of_job};
 use crate::answers::{Answer, Refusal};
 use crate::replay_command::replay_script;
 use crate::run_command::run_script;
+use crate::sample_command::sample_script;
 use crate::words::Job;
 use pct_history::split_replay;
 use pct_io::{Gate, NoMemory};
@@ -63,6 +64,7 @@ fn answer_script<R: Threads + Sync, G: Gate>(
         Job::Run(options) => run_script(runtime, options, script),
         Job::Replay => replay_script(runtime.alloc, script, schedule),
         Job::Check => Ok(Answer::Checked(script)),
+        Job::Sample(seeds) => sample_script(runtime, &script, seeds),
         Job::Points | Job::Demo(_) => unreachable!(),
     }
 }

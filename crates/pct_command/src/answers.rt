@@ -1,4 +1,4 @@
-//! The answers: a refusal, a run, a script, the table of cancellation points, or a run of a generated script.
+//! The answers: a refusal, a run, a script, the table of cancellation points, a run of a generated script, or a tally of runs.
 
 ghost use Rattle.std.specs.Prelude.{◌≡◌};
 ghost use Rattle.pct_command.specs.Answer.{status_of_answer, status_of_refusal};
@@ -7,6 +7,7 @@ ghost use Rattle.pct_command.specs.Status.{IsAnswered};
 use crate::status::Status;
 use pct_engine::Engine;
 use pct_model::{ParseWhy, ScheduleWhy, Script};
+use pct_sample::Tally;
 
 /// Why an input is refused.
 #[derive(Clone, Copy, Debug, PartialEq, Eq)]
@@ -36,6 +37,8 @@ pub(crate) enum Answer {
     Points,
     /// The summary of the run of the script that is generated from a number.
     Demonstrated { number: u32, engine: Engine },
+    /// What is counted of the runs of the script under the seeds from 1 on.
+    Sampled { seeds: u32, tally: Tally },
 }
 
 /// Why there is no answer to an input.
@@ -71,7 +74,10 @@ impl Answer {
         match self {
             Answer::Refused(refusal) => refusal.status(),
             Answer::Ran(engine) => Status::of_verdict(engine.verdict()),
-            Answer::Checked(_) | Answer::Points | Answer::Demonstrated { .. } => Status::Complete,
+            Answer::Checked(_)
+            | Answer::Points
+            | Answer::Demonstrated { .. }
+            | Answer::Sampled { .. } => Status::Complete,
         }
     }
 }

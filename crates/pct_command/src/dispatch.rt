@@ -23,17 +23,19 @@ use std::thread::Threads;
 /// Performs the command that the words name on the bytes of the source, and writes the answer to the sink.
 ///
 /// The words are `run` and its options (`--budget N`, `--passes N`, `--slots N`, `--seed N`, `--workers N` and `--turns N`, each also as
-/// `--budget=N`), `demo` and a number, or `replay`, `check` or `points` alone. `run` reads a script and runs it: 1 to 16 workers take
-/// turns, on threads of their own if threads can be made, and a worker that gets a turn makes one step, which two words of its random
-/// stream choose under the seed. When each worker has taken its turns, number 0 makes the steps that are left, by its own stream. `replay`
-/// reads a script, a line `%%`, and a schedule or a whole report, and runs the script under that schedule. Both write a report. `check`
-/// reads a script and writes its canonical text. `points` reads nothing and writes the table of cancellation points (XSH 2.9.5.2). `demo`
-/// reads nothing, runs the script that is generated from the number, where the number of steps so far chooses each step, and writes a
-/// summary of the run. A refusal is one line that names the reason.
+/// `--budget=N`), `sample` and a number of seeds from 1 to 10,000, `demo` and a number, or `replay`, `check` or `points` alone. `run` reads a
+/// script and runs it: 1 to 16 workers take turns, on threads of their own if threads can be made, and a worker that gets a turn makes one
+/// step, which two words of its random stream choose under the seed. When each worker has taken its turns, number 0 makes the steps that are
+/// left, by its own stream. `replay` reads a script, a line `%%`, and a schedule or a whole report, and runs the script under that schedule.
+/// Both write a report. `check` reads a script and writes its canonical text. `sample` reads a script, runs it as `run` does under each seed
+/// from 1 to the number, and writes how many of the runs ended in which way, and the first seed of each. `points` reads nothing and writes the
+/// table of cancellation points (XSH 2.9.5.2). `demo` reads nothing, runs the script that is generated from the number, where the number of
+/// steps so far chooses each step, and writes a summary of the run. A refusal is one line that names the reason.
 ///
 /// With one worker the report is that of the seed. With several workers it depends on how their threads run, and which one it is, is not
 /// promised; it names the worker of each step. The gate is called before each turn of a worker. It can delay the worker, and has no other
-/// effect.
+/// effect. The runs of `sample` are spread over threads, if threads can be made; its answer does not depend on that, and the gate is not
+/// called.
 ///
 /// The answer is the first of these that holds, unless it is `ReadFault`, `WriteFault` or `NoMemory`:
 ///
@@ -43,6 +45,7 @@ use std::thread::Threads;
 /// - `TooLong`: more than 16,777,216 bytes were read.
 /// - `ScriptRefused`: the text of the script has a fault.
 /// - `Complete`, from `check`: the canonical text was written.
+/// - `Complete`, from `sample`: what is counted of the runs was written, whatever their verdicts are.
 /// - `ScheduleRefused`, only from `replay`: the text of the schedule has a fault, or one of its entries is not legal.
 /// - `Complete`, `Deadlock`, `Budget`, `Undefined` or `Open`: the report of a run with this verdict was written. `run` never
 ///   answers `Open`.
@@ -50,10 +53,10 @@ use std::thread::Threads;
 /// With the answers of this list from `ScriptRefused` on the input was read to its end. `replay` of a report that was written
 /// gives the same bytes again, if the script, the line `%%` and the report have at most 16,777,216 bytes together.
 ///
-/// - `ReadFault` comes only with `run`, `replay` and `check`, and only if the source recorded an error in this call. The sink
-///   is unchanged.
+/// - `ReadFault` comes only with `run`, `replay`, `check` and `sample`, and only if the source recorded an error in this call. The
+///   sink is unchanged.
 /// - `WriteFault` comes only if the sink recorded an error in this call. A prefix of the text was written.
-/// - `NoMemory` comes only with `run`, `replay`, `check` and `demo`. The sink is unchanged.
+/// - `NoMemory` comes only with `run`, `replay`, `check`, `sample` and `demo`. The sink is unchanged.
 pub fn command<R: Threads + Sync, S: Source, K: Sink, G: Gate>(
     rt: &R,
     alloc: Global,

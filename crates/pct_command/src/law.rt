@@ -1,6 +1,7 @@
-//! The outcome of an input is unique, and so is the answer to it.
+//! The outcome of an input is unique, and so is the answer to it; and what a sample shows of single runs.
 
 ghost use Rattle.pct_command.specs.Command.{AnswersAreOne, OutcomesAreOne};
+ghost use Rattle.pct_command.specs.FirstSeeds.{FirstSeedsReproduce};
 
 /// An empty function whose contract states a theorem: words, an input and a schedule have at most one outcome, which is a
 /// status and a text.
@@ -13,4 +14,10 @@ pub fn outcomes_are_one()
 /// not depend on one.
 pub fn answers_are_one()
     ensures { AnswersAreOne }
+{}
+
+/// An empty function whose contract states a theorem: where the answer of `sample` to an input counts runs with a verdict, each answer of
+/// `run --seed S` to this input, for the first of their seeds, has the status of this verdict.
+pub fn first_seeds_reproduce()
+    ensures { FirstSeedsReproduce }
 {}

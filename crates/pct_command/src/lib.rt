@@ -1,5 +1,5 @@
-//! The top call: `command` reads words and an input. It runs the script of the input, replays a schedule of it, or writes
-//! its canonical text. Without an input it writes the table of cancellation points, or runs a generated script.
+//! The top call: `command` reads words and an input. It runs the script of the input, replays a schedule of it, counts what happens under
+//! many seeds, or writes its canonical text. Without an input it writes the table of cancellation points, or runs a generated script.
 #![tactic(auto)]
 
 mod answer_writer;
@@ -12,6 +12,7 @@ mod in_memory;
 mod law;
 mod replay_command;
 mod run_command;
+mod sample_command;
 mod seeded_run;
 mod status;
 mod text_sink;
@@ -22,7 +23,7 @@ pub use answers::Refusal;
 pub use arguments::words_of;
 pub use dispatch::command;
 pub use in_memory::answer;
-pub use law::{answers_are_one, outcomes_are_one};
+pub use law::{answers_are_one, first_seeds_reproduce, outcomes_are_one};
 pub use pct_model::RunOptions;
 pub use seeded_run::continue_seeded;
 pub use status::Status;

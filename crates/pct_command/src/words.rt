@@ -4,11 +4,15 @@ ghost use Rattle.std.specs.Prelude.{◌≡◌, map, string_bytes, true, false, I
 ghost use Rattle.pct_model.specs.Demo.{demo_number};
 ghost use Rattle.pct_model.specs.Outcome.{is_accepted};
 ghost use Rattle.pct_model.specs.RunOptions.{run_options};
+ghost use Rattle.pct_model.specs.Sample.{sample_number, seed_count};
 ghost use Rattle.pct_command.specs.Words.{Asks};
 
 use pct_model::{Keyword, RunOptions};
 use pct_options::read_options;
 use pct_text::numeral;
+
+// The most seeds of a sample.
+const MAX_SEEDS: u32 = 10_000;
 
 /// The words are not accepted.
 #[derive(Clone, Copy, Debug, PartialEq, Eq)]
@@ -27,10 +31,12 @@ pub enum Job {
     Points,
     /// Run the script that is generated from this number, and write the summary of the run.
     Demo(u32),
+    /// Run the script of the input under each seed from 1 to this number, and write what is counted of the runs.
+    Sample(u32),
 }
 
-/// The command that the words name: `run` with its options, `demo` with a number, or one word, which is `replay`, `check` or
-/// `points`. `Usage` comes with all other words. It allocates no memory.
+/// The command that the words name: `run` with its options, `demo` with a number, `sample` with a number of seeds from 1 to 10,000, or one
+/// word, which is `replay`, `check` or `points`. `Usage` comes with all other words. It allocates no memory.
 #[tactic(auto, unfolding(pct_model::specs::Outcome::is_asked))]
 pub fn read_words(words: &[String]) -> Result<Job, Usage>
     ensures accepted { IsOk result ↔ (is_accepted (map string_bytes words.now) ≡ true) }
@@ -41,6 +47,9 @@ pub fn read_words(words: &[String]) -> Result<Job, Usage>
     }
     if let Some(number) = demo_number(words) {
         return Ok(Job::Demo(number));
+    }
+    if let Some(seeds) = sample_number(words) {
+        return Ok(Job::Sample(seeds));
     }
     match words {
         [word] if word.as_bytes() == Keyword::Replay.text() => Ok(Job::Replay),
@@ -73,5 +82,31 @@ fn demo_number(words: &[String]) -> Option<u32>
             number.as_bytes(),
         ),
         _ => None,
+    }
+}
+
+// The number of seeds that the words ask for, if they are `sample` and such a number.
+#[tactic(auto, unfolding(pct_model::specs::Sample::sample_number))]
+fn sample_number(words: &[String]) -> Option<u32>
+    ensures { result ≡ sample_number (map string_bytes words.now) }
+{
+    match words {
+        [command, count] if command.as_bytes() == Keyword::Sample.text() => seed_count(
+            count.as_bytes(),
+        ),
+        _ => None,
+    }
+}
+
+// The number of seeds that a word gives, if it is one from 1 to 10,000.
+#[tactic(auto, unfolding(pct_model::specs::Sample::seed_count))]
+fn seed_count(word: &[u8]) -> Option<u32>
+    ensures { result ≡ seed_count word.now }
+{
+    let count = numeral(word)?;
+    if 1 <= count && count <= MAX_SEEDS {
+        Some(count)
+    } else {
+        None
     }
 }

@@ -9,7 +9,7 @@ ghost use Rattle.pct_ready_sets.specs.ReadyConditions.{FollowAll};
 use crate::trace::Trace;
 use pct_io::NoMemory;
 use pct_machine::{Draw, Machine, ProcessView};
-use pct_model::{Config, Entry, Event, Script, Transition, Verdict};
+use pct_model::{Config, Entry, Event, Script, Verdict};
 use pct_ready_sets::AllReadySets;
 use pct_threads::Steps;
 use pct_transitions::{Program, no_change};
@@ -30,7 +30,6 @@ pub struct Engine {
     // What is known of the threads that have a choice.
     sets: AllReadySets,
     trace: Trace,
-    scratch: Transition,
 }
 
 impl Model for Engine {
@@ -68,7 +67,6 @@ impl Engine {
             machine,
             sets,
             trace,
-            scratch: no_change(),
         })
     }
 
@@ -137,10 +135,11 @@ impl Engine {
             thread: a,
             choice: b,
         };
+        let mut transition = no_change();
         let entry = self
             .machine
-            .advance(&self.program, &mut self.sets, draw, &mut self.scratch)?;
-        self.trace.record_step(&entry, &self.scratch.events);
+            .advance(&self.program, &mut self.sets, draw, &mut transition)?;
+        self.trace.record_step(&entry, &transition.events);
         Some(entry)
     }
 

@@ -21,10 +21,10 @@ use Rattle.pct_model.specs.StopTexts.{stop_words}
 abbrev pub word : Keyword → List ℕ
 word k = keyword_text k
 
--- the first word if the flag is set, else the second
+-- the one word if the flag is set, else the other
 abbrev pub either : Keyword → Keyword → Bool → List ℕ
-either first second true = keyword_text first
-either first second false = keyword_text second
+either one other true = keyword_text one
+either one other false = keyword_text other
 
 -- the kind of the line that makes a call
 abbrev pub line_kind_of_caller : Caller → LineKind

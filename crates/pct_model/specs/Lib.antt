@@ -52,4 +52,5 @@ pub mod Schedule
 pub mod RunOptions
 pub mod GeneratedScript
 pub mod Demo
+pub mod Sample
 pub mod Outcome

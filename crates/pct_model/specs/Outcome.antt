@@ -23,6 +23,7 @@ use Rattle.pct_model.specs.Run.{Run, run, first_illegal, verdict_of}
 use Rattle.pct_model.specs.RunOptions.{run_options, default_config}
 use Rattle.pct_model.specs.GeneratedScript.{generated_text}
 use Rattle.pct_model.specs.Demo.{demo_number, IsCountedRun, summary_of}
+use Rattle.pct_model.specs.Sample.{sample_number}
 use Rattle.pct_model.specs.Canon.{canon}
 use Rattle.pct_model.specs.Report.{report}
 
@@ -38,9 +39,13 @@ is_asked asked (w ∷ next ∷ words) = false
 abbrev pub asks_run : List (List ℕ) → Bool
 asks_run words = is_some (run_options words)
 
--- the arguments of a command that reads the input: `run` with its options, or `replay` or `check` alone
+-- the arguments are `sample` and a number of seeds
+abbrev pub asks_sample : List (List ℕ) → Bool
+asks_sample words = is_some (sample_number words)
+
+-- the arguments of a command that reads the input: `run` with its options, `sample` with a number of seeds, or `replay` or `check` alone
 abbrev pub needs_input : List (List ℕ) → Bool
-needs_input words = asks_run words || is_asked keyword.Replay words || is_asked keyword.Check words
+needs_input words = asks_run words || is_asked keyword.Replay words || is_asked keyword.Check words || asks_sample words
 
 -- the arguments are `demo` and a number
 abbrev pub asks_demo : List (List ℕ) → Bool
@@ -50,7 +55,7 @@ asks_demo words = is_some (demo_number words)
 abbrev pub is_accepted : List (List ℕ) → Bool
 is_accepted words = needs_input words || is_asked keyword.Points words || asks_demo words
 
--- the script in the input: the part before the line `%%` for `replay`, the whole input for `run` and `check`
+-- the script in the input: the part before the line `%%` for `replay`, the whole input for `run`, `check` and `sample`
 unfoldable pub script_part : List (List ℕ) → List ℕ → List ℕ
 script_part words input = if is_asked keyword.Replay words then take (replay_parts input).0 input else input
 
@@ -219,7 +224,8 @@ pub record Demonstrates (words : List (List ℕ)) (code : ℕ) (text : List ℕ)
   pub text_is : text ≡ summary_of number script default_config entries after
 
 -- the outcome for these arguments and this input, under this schedule. The cases are disjoint, and in the order in
--- which they are decided; only `run` depends on the schedule.
+-- which they are decided; only `run` depends on the schedule. What `sample` writes of a script without a fault is what is counted of many
+-- runs, and is defined beside that.
 pub data Outcome (words : List (List ℕ)) (input : List ℕ) (schedule : List Entry) (code : ℕ) (text : List ℕ) : Type 0 where
   WordsRefused : RefusesWords words code text → Outcome words input schedule code text
   InputRefused : RefusesInput words input code text → Outcome words input schedule code text

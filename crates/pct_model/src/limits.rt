@@ -35,6 +35,8 @@ pub const MIN_PASSES: u32 = 4;
 pub const MAX_PASSES: u32 = 16;
 /// Thread slots of a process.
 pub const MAX_SLOTS: u32 = 64;
+/// Seeds of a sample.
+pub const MAX_SEEDS: u32 = 10_000;
 
 /// The budget of a run that is given none.
 pub const DEFAULT_BUDGET: u32 = 10_000;

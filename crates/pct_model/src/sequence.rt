@@ -35,6 +35,13 @@ impl<T> Sequence<T> {
     {
         self.items.as_slice()
     }
+
+    /// The vector of the items. It allocates no memory.
+    pub fn into_vec(self) -> Vec<T>
+        ensures { result.items ≡ self }
+    {
+        self.items
+    }
 }
 
 /// Names.

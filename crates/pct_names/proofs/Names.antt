@@ -222,7 +222,7 @@ pub use Rattle.pct_model.specs.Environment.{Environment, Waiter, exit_value_of, 
 pub use Rattle.pct_model.specs.Environment.{is_joined_by_one, is_joining, is_last, names_no_thread, waiter_by, waiters_among}
 pub use Rattle.pct_model.specs.Environment.{waits_with_another_mutex}
 unfoldable pub use Rattle.pct_model.specs.Environment.{environment_of}
-pub use Rattle.pct_model.specs.Outcome.{Demonstrates, Outcome, Ran, Runs, asks_demo, is_accepted, needs_input}
+pub use Rattle.pct_model.specs.Outcome.{Demonstrates, Outcome, Ran, Runs, asks_demo, asks_sample, is_accepted, needs_input}
 unfoldable pub use Rattle.pct_model.specs.Outcome.{code_of_verdict, is_asked, refused_entry, refused_input, refused_schedule}
 unfoldable pub use Rattle.pct_model.specs.Outcome.{refused_script, refused_words, schedule_part, script_part}
 pub use Rattle.pct_model.specs.Points.{Row, point_at, row_words}
@@ -237,6 +237,7 @@ unfoldable pub use Rattle.pct_model.specs.Run.{illegal_in, run, run_from, run_st
 pub use Rattle.pct_model.specs.RunOptions.{GivenOption, HasWorkers, all_options, default_config, greatest_value, is_named, least_value}
 pub use Rattle.pct_model.specs.RunOptions.{number_by, number_given, numbers_given, option_name, values_given}
 unfoldable pub use Rattle.pct_model.specs.RunOptions.{given_after, options_of, run_options}
+unfoldable pub use Rattle.pct_model.specs.Sample.{sample_number, seed_count}
 pub use Rattle.pct_model.specs.Schedule.{Read, Schedule, choice_of, config_of, entry_in, entry_of_parts, entry_of_words, format_with}
 pub use Rattle.pct_model.specs.Schedule.{header_of_words, if_config, if_known, plain_choice}
 pub use Rattle.pct_model.specs.Schedule.{is_end_of_words, is_marker, is_number, nothing_after, numbered_choice, prepend_entry, read_end}

@@ -3,5 +3,6 @@ mod FirstHits
 mod Verdicts
 mod SeedRuns
 mod FirstSeeds
-mod SeedOptions
-mod OneTally
+pub mod SeedOptions
+pub mod OneTally
+mod TallyLines

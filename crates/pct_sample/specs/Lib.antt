@@ -3,3 +3,4 @@ pub mod Tallies
 pub mod FirstSeeds
 pub mod SeedWords
 pub mod OneTally
+pub mod TallyTexts

@@ -2,6 +2,7 @@
 
 ghost use Rattle.std.specs.Prelude.{◌≡◌, ◌≤◌, length, IfOk};
 ghost use Rattle.std.specs.List.{AllZip, range_with_len};
+ghost use Rattle.pct_model.specs.declared.limits.TheConstants.{MAX_SEEDS};
 ghost use Rattle.pct_sample.specs.FirstSeeds.{AreFirstSeeds};
 ghost use Rattle.pct_sample.specs.SeedRuns.{IsRunOfSeed};
 ghost use Rattle.pct_sample.specs.Tallies.{TallyOf};
@@ -24,7 +25,7 @@ pub fn sample_runs<R: Threads + Sync>(
     script: &Script,
     k: u32,
 ) -> Result<Vec<SeedRun>, NoMemory>
-    requires { (1 ≤ k) × (k ≤ 10000) }
+    requires { (1 ≤ k) × (k ≤ MAX_SEEDS) }
     ensures runs { IfOk result (λ runs. AllZip (IsRunOfSeed script.now) (range_with_len 1 k) runs.items) }
     ensures count { IfOk result (λ runs. length runs.items ≡ k) }
 {
@@ -50,7 +51,7 @@ pub fn sample<R: Threads + Sync>(
     script: &Script,
     k: u32,
 ) -> Result<Tally, NoMemory>
-    requires { (1 ≤ k) × (k ≤ 10000) }
+    requires { (1 ≤ k) × (k ≤ MAX_SEEDS) }
     ensures tally { IfOk result (TallyOf script.now k) }
     ensures first { IfOk result (AreFirstSeeds script.now k) }
 {

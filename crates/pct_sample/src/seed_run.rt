@@ -6,11 +6,11 @@ ghost use Rattle.pct_model.specs.Run.{Run};
 ghost use Rattle.pct_engine.specs.EngineStates.{IsRunOf};
 ghost use Rattle.pct_sample.specs.SeedRuns.{IsRunOfSeed, IsSummaryOf, is_canceled, is_joined};
 
-use crate::copying::copy_script;
 use pct_engine::Engine;
 use pct_io::NoMemory;
 use pct_model::{Config, Event, PTHREAD_CANCELED, Script, Verdict, What, format_of};
 use pct_scheduled_run::{continue_run, stream_of};
+use pct_script::copy_script;
 use std::alloc::Global;
 
 // The worker that makes every step.

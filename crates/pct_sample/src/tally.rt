@@ -1,6 +1,7 @@
 //! What is counted of the runs of many seeds.
 
 ghost use Rattle.std.specs.Prelude.{◌≡◌, ◌≤◌, find, length, option_map, sum_by, IfOk};
+ghost use Rattle.pct_model.specs.declared.limits.TheConstants.{MAX_SEEDS};
 ghost use Rattle.pct_sample.specs.Tallies.{all_stops, count_of, first_with, has_verdict, is_met, least_in, most_in, runs_with, stop_count, stops_among, tally_of};
 
 use crate::seed_run::SeedRun;
@@ -73,7 +74,7 @@ static ALL_STOPS: [Why; 16] = [
 
 /// The tally of at most 10,000 runs. `NoMemory` is returned if the stops do not fit into memory.
 pub fn tally_of(alloc: Global, runs: &[SeedRun]) -> Result<Tally, NoMemory>
-    requires { length runs.now ≤ 10000 }
+    requires { length runs.now ≤ MAX_SEEDS }
     ensures { IfOk result (λ tally. tally ≡ tally_of runs.now) }
 {
     Ok(Tally {
@@ -91,7 +92,7 @@ pub fn tally_of(alloc: Global, runs: &[SeedRun]) -> Result<Tally, NoMemory>
 // The stops that ended a run.
 #[tactic(auto, unfolding(crate::specs::Tallies::all_stops))]
 fn stops_in(alloc: Global, runs: &[SeedRun]) -> Result<Stops, NoMemory>
-    requires { length runs.now ≤ 10000 }
+    requires { length runs.now ≤ MAX_SEEDS }
     ensures { IfOk result (λ stops. stops ≡ stops_among runs.now all_stops) }
 {
     Ok(Sequence::of(stops_among(alloc, ALL_STOPS.as_slice(), runs)?))
@@ -100,7 +101,7 @@ fn stops_in(alloc: Global, runs: &[SeedRun]) -> Result<Stops, NoMemory>
 // Those of these stops that ended a run.
 #[tactic(auto, unfolding(crate::specs::Tallies::stops_among))]
 fn stops_among(alloc: Global, whys: &[Why], runs: &[SeedRun]) -> Result<Vec<StopCount>, AllocError>
-    requires { length runs.now ≤ 10000 }
+    requires { length runs.now ≤ MAX_SEEDS }
     ensures { IfOk result (λ stops. stops.items ≡ stops_among runs.now whys.now) }
 {
     whys.iter()
@@ -111,7 +112,7 @@ fn stops_among(alloc: Global, whys: &[Why], runs: &[SeedRun]) -> Result<Vec<Stop
 
 // The runs that a stop ended.
 fn stop_count(why: Why, runs: &[SeedRun]) -> StopCount
-    requires { length runs.now ≤ 10000 }
+    requires { length runs.now ≤ MAX_SEEDS }
     ensures { result ≡ stop_count runs.now why }
 {
     StopCount {
@@ -129,7 +130,7 @@ fn is_met(stop: &StopCount) -> bool
 
 // The runs with a verdict.
 fn count_of(verdict: Verdict, runs: &[SeedRun]) -> Count
-    requires { length runs.now ≤ 10000 }
+    requires { length runs.now ≤ MAX_SEEDS }
     ensures { result ≡ count_of verdict runs.now }
 {
     Count {
@@ -140,7 +141,7 @@ fn count_of(verdict: Verdict, runs: &[SeedRun]) -> Count
 
 // The number of the runs with a verdict.
 fn runs_with(verdict: Verdict, runs: &[SeedRun]) -> u32
-    requires { length runs.now ≤ 10000 }
+    requires { length runs.now ≤ MAX_SEEDS }
     ensures { result ≡ runs_with verdict runs.now }
 {
     runs.iter().filter(|run| has_verdict(run, verdict)).count() as u32
@@ -171,14 +172,14 @@ fn has_verdict(run: &SeedRun, verdict: Verdict) -> bool
 }
 
 fn joined_in(runs: &[SeedRun]) -> u64
-    requires { length runs.now ≤ 10000 }
+    requires { length runs.now ≤ MAX_SEEDS }
     ensures { result ≡ sum_by (λ run. run.joined) runs.now }
 {
     runs.iter().map(|run| u64::from(run.joined)).sum()
 }
 
 fn canceled_in(runs: &[SeedRun]) -> u64
-    requires { length runs.now ≤ 10000 }
+    requires { length runs.now ≤ MAX_SEEDS }
     ensures { result ≡ sum_by (λ run. run.canceled) runs.now }
 {
     runs.iter().map(|run| u64::from(run.canceled)).sum()

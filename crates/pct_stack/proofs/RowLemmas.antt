@@ -136,3 +136,28 @@ module _ (n width : ℕ) (words : List ℕ) (all : length words ≡ n * width) (
   cleared-row =
       cleared-first width (omega arith)
       ∙ written-last rows_seen row in_rows width (replicate width 0) (omega (arith, length-replicate {A = ℕ} width 0)) (omega (arith, rows_of-even n width words row all inside))
+
+-- ---- many items that are written
+
+-- all items from the first on up to a number
+pub set_from-then : {X : Type 0} (x : X) (done n : ℕ) (items : List X) → set_from x done n (set_from x 0 done items) ≡ set_from x 0 (done + n) items
+set_from-then x done zero items = ap (λ k. set_from x 0 k items) {x = done} {y = done + 0} (omega arith)
+set_from-then x done (suc n) items =
+    ap (λ l. set l (done + n) x) (set_from-then x done n items)
+    ∙ ap (λ k. set (set_from x 0 (done + n) items) k x) {x = done + n} {y = 0 + (done + n)} (omega arith)
+    ∙ ap (λ k. set_from x 0 k items) {x = suc (done + n)} {y = done + suc n} (omega arith)
+
+pub set_from-written : {X : Type 0} (x d : X) (n k : ℕ) (items : List X) → k ≤ n → k ≤ length items → set_from x 0 k items ≡ written k (replicate n x) items
+set_from-written x d n zero items few short = refl
+set_from-written {X = X} x d n (suc k) items few short =
+    ap (λ l. set l (0 + k) x) (set_from-written x d n k items (omega (arith, few)) (omega (arith, short)))
+    ∙ ap (λ p. set (written k (replicate n x) items) p x) {x = 0 + k} {y = k} (omega arith)
+    ∙ ap (set (written k (replicate n x) items) k) (sym (get_or-replicate n k x d (omega (arith, few))))
+    ∙ written-more k (replicate n x) items d (omega (arith, few, length-replicate {A = X} n x)) (omega (arith, short))
+    ∙ ap (λ p. written p (replicate n x) items) {x = k + 1} {y = suc k} (omega arith)
+
+-- all items are written
+pub set_from-all : {X : Type 0} (x d : X) (n : ℕ) → set_from x 0 n (replicate n d) ≡ replicate n x
+set_from-all {X = X} x d n =
+    set_from-written x d n n (replicate n d) (omega arith) (omega (arith, length-replicate {A = X} n d))
+    ∙ written-all n (replicate n x) (replicate n d) (omega (arith, length-replicate {A = X} n x)) (omega (arith, length-replicate {A = X} n d))

@@ -1,8 +1,9 @@
 //! Rows of words, one after the other in one block: word `i` of row `row` is at `row * width + i`.
 
-ghost use Rattle.std.specs.Prelude.{◌≡◌, ◌<◌, ◌≤◌, length, replicate, IfOk};
+ghost use Rattle.std.specs.Prelude.{◌≡◌, ℕ, ◌+◌, ◌-◌, ◌*◌, ◌<◌, ◌≤◌, length, replicate, slice_index_or, IfOk};
 ghost use Rattle.pct_stack.specs.Rows.{row_at, word_at, with_row, with_word};
 
+use crate::WordsFrom;
 use crate::words::Words;
 use pct_io::NoMemory;
 use std::alloc::Global;
@@ -45,6 +46,38 @@ impl Grid {
         ensures few { result ≤ 64 }
     {
         self.rows
+    }
+
+    /// The index of the first word of a row, counted over all rows.
+    #[inline(always)]
+    pub(crate) fn first_of(&self, row: u32) -> usize
+        requires { row < length self.now.rows }
+        ensures { result ≡ row * self.now.width }
+    {
+        row as usize * self.width as usize
+    }
+
+    /// The words from one on that is in the row or directly after it. Its index is counted over all rows.
+    #[inline(always)]
+    pub(crate) fn words_from(&self, row: u32, first: usize) -> WordsFrom<'_>
+        requires row { row < length self.now.rows }
+        requires from { row * self.now.width ≤ first }
+        requires to { first ≤ row * self.now.width + self.now.width }
+        ensures words { (i : ℕ) → first + i < row * self.now.width + self.now.width → slice_index_or result i 0 ≡ word_at self.now row (first + i - row * self.now.width) }
+        ensures long { row * self.now.width + self.now.width ≤ first + length result }
+    {
+        self.words.from(first)
+    }
+
+    /// Sets a word of a row. Its index is counted over all rows.
+    #[inline(always)]
+    pub(crate) fn set_at(&mut self, row: u32, index: usize, value: u32)
+        requires row { row < length self.old.rows }
+        requires from { row * self.old.width ≤ index }
+        requires to { index < row * self.old.width + self.old.width }
+        ensures { self.new ≡ with_word row (index - row * self.old.width) value self.old }
+    {
+        self.words.set(index, value);
     }
 
     #[inline(always)]

@@ -7,5 +7,7 @@ mod stack_block;
 #[cfg(test)]
 mod tests;
 mod words;
+mod words_from;
 
 pub use stack_block::StackBlock;
+pub use words_from::WordsFrom;

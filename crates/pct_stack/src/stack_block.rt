@@ -1,9 +1,10 @@
 //! Slots of equal size in one block. Each free slot is linked to the next free slot and to the one before it, by its first two words.
 
-ghost use Rattle.std.specs.Prelude.{◌≡◌, ◌<◌, ◌≤◌, ℕ, true, false, [], length, replicate, slice_get, slice_index_or, slice_set, IfOk, IfSome};
+ghost use Rattle.std.specs.Prelude.{◌≡◌, ◌<◌, ◌≤◌, ◌+◌, ◌-◌, ◌*◌, ℕ, true, false, [], length, replicate, slice_get, slice_index_or, slice_set, IfOk, IfSome};
 ghost use Rattle.pct_stack.specs.Links.{with_front, with_bypass, head_without};
 ghost use Rattle.pct_stack.specs.Stacks.{is_taken, is_free, words_at, all_free, with_taken, with_given, with_words, with_kept_alone};
 
+use crate::WordsFrom;
 use crate::grid::Grid;
 use pct_io::NoMemory;
 use std::alloc::Global;
@@ -98,6 +99,40 @@ impl StackBlock {
         ensures { self.new ≡ with_given slot self.old }
     {
         link(&mut self.grid, &mut self.head, slot);
+    }
+
+    /// The index of the first word of a slot, which must be taken, counted over all slots.
+    #[inline(always)]
+    pub fn first_of(&self, slot: u32) -> usize
+        requires { is_taken self.now slot ≡ true }
+        ensures { result ≡ slot * self.now.width }
+    {
+        self.grid.first_of(slot)
+    }
+
+    /// The words from one on that is in the slot, which must be taken, or directly after it. Its index is counted over all slots.
+    #[inline(always)]
+    pub fn words_from(&self, slot: u32, first: usize) -> WordsFrom<'_>
+        requires slot { is_taken self.now slot ≡ true }
+        requires from { slot * self.now.width ≤ first }
+        requires to { first ≤ slot * self.now.width + self.now.width }
+        ensures words { (i : ℕ) → first + i < slot * self.now.width + self.now.width → slice_index_or result i 0 ≡ slice_index_or (words_at self.now slot) (first + i - slot * self.now.width) 0 }
+        ensures long { slot * self.now.width + self.now.width ≤ first + length result }
+    {
+        self.grid.words_from(slot, first)
+    }
+
+    /// Sets a word of a slot, which must be taken. Its index is counted over all slots.
+    #[inline(always)]
+    pub fn set_at(&mut self, slot: u32, index: usize, value: u32)
+        requires slot { is_taken self.old slot ≡ true }
+        requires from { slot * self.old.width ≤ index }
+        requires to { index < slot * self.old.width + self.old.width }
+        ensures block { self.new ≡ with_words slot (slice_set (words_at self.old slot) (index - slot * self.old.width) value) self.old }
+        // This holds of every slot that is taken.
+        ensures long { length (words_at self.old slot) ≡ self.old.width }
+    {
+        self.grid.set_at(slot, index, value);
     }
 
     /// A word of a slot, which must be taken. The index must be below the number of words.

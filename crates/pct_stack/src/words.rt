@@ -1,12 +1,16 @@
 //! A block of words in memory. In a contract it is the list of the words.
 
-ghost use Rattle.std.specs.Prelude.{◌≡◌, ◌<◌, ◌≤◌, ◌+◌, ◌^◌, length, replicate, slice_set, slice_index_or, Some, IfOk};
+ghost use Rattle.std.specs.Prelude.{◌≡◌, ◌<◌, ◌≤◌, ◌+◌, ◌^◌, length, drop, replicate, slice_set, slice_index_or, Some, IfOk};
 ghost use Rattle.pct_stack.specs.Rows.{set_from};
 
+use crate::WordsFrom;
 use crate::cells::{BlockStart, Cells, FreeRight, allocate, deallocate};
 use pct_io::NoMemory;
 use std::alloc::Global;
 use std::marker::Model;
+
+// A new block is cleared in pieces of at most so many words.
+const PIECE: usize = 256;
 
 /// A fixed number of words in one block of memory, which is freed when they are dropped.
 pub struct Words {
@@ -36,8 +40,11 @@ impl Words {
         ensures { IfOk result (λ words. words ≡ replicate count 0) }
     {
         let (start, mut cells, right) = allocate(&alloc, count)?;
-        for index in 0..count {
-            cells.write(start, index, 0);
+        let mut done = 0;
+        while done < count {
+            let piece = piece_of(count - done);
+            clear_cells(&mut cells, start, done, piece);
+            done += piece as usize;
         }
         Ok(Words {
             start,
@@ -46,6 +53,20 @@ impl Words {
             right,
             alloc,
         })
+    }
+
+    /// The words from one of them on. There must be at most 65,536 words.
+    #[inline(always)]
+    pub(crate) fn from(&self, first: usize) -> WordsFrom<'_>
+        requires within { first ≤ length self.now }
+        requires few { length self.now ≤ 65536 }
+        ensures { result ≡ drop first self.now }
+    {
+        WordsFrom {
+            cells: &self.cells,
+            start: self.start,
+            first,
+        }
     }
 
     #[inline(always)]
@@ -70,6 +91,18 @@ impl Words {
         ensures { self.new ≡ set_from 0 first count self.old }
     {
         clear_cells(&mut self.cells, self.start, first, count);
+    }
+}
+
+// The number of words of the next piece, where so many are left.
+fn piece_of(left: usize) -> u32
+    ensures few { result ≤ left }
+    ensures some { 0 < left → 0 < result }
+{
+    if left < PIECE {
+        left as u32
+    } else {
+        PIECE as u32
     }
 }
 

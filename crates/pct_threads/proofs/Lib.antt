@@ -1,4 +1,5 @@
-mod FrameLemmas
+mod StackFrameLemmas
+mod RowLemmas
 pub mod TableLemmas
 mod FreeSlots
 mod OccupiedSlots

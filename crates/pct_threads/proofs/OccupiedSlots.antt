@@ -1,12 +1,11 @@
 -- The set of the occupied slots, after a change of one slot.
-use Rattle.pct_names.proofs.Names.{◌<◌, [], ap, Bool, cases_eq, cond, false, inl, inr, is_some, length, List, map, None, Option, option_map}
+use Rattle.pct_names.proofs.Names.{◌<◌, [], ap, Bool, cases_eq, cond, false, inl, inr, is_some, length, List, None, Option, option_map}
 use Rattle.pct_names.proofs.Names.{refl, slice_set, Some, sym, true, ℕ, ◌∙◌, ◌≡◌}
 use Rattle.std.proofs.lemmas.Bool.{eq-eqb, ne_eqb}
 use Rattle.std.proofs.lemmas.List.{get_or-set_same, get_or-set_other}
-use Rattle.std.proofs.Math.ListN.{get_or-map}
 use Rattle.pct_set.specs.Slots.{slots_where, with_slot, without_slot}
 use Rattle.pct_set.proofs.SlotLemmas.{slots_agree, with_slot-where, without_slot-where}
-use Rattle.pct_threads.specs.Slots.{Held, Slot, unused, is_occupied, freed}
+use Rattle.pct_threads.specs.Slots.{Held, Slot, unused, is_occupied}
 use Rattle.pct_threads.specs.Tables.{is_occupied_at}
 
 module _ (slots : List Slot) (i : ℕ) (s : Slot) (inside : i < length slots) where
@@ -55,6 +54,6 @@ no_slot : slots_where (λ k. false) ≡ []
 unfolding slots_where
 no_slot = refl
 
--- no thread holds a slot where each was given back
-pub none_held : (slots : List Slot) → [] ≡ slots_where (is_occupied_at (map freed slots))
-none_held slots = sym (slots_agree (is_occupied_at (map freed slots)) (λ k. false) (λ k small. ap is_occupied (get_or-map freed slots k unused)) ∙ no_slot)
+-- the set is empty where no slot is occupied
+pub none_occupied : (slots : List Slot) → ((k : ℕ) → is_occupied_at slots k ≡ false) → [] ≡ slots_where (is_occupied_at slots)
+none_occupied slots free = sym (slots_agree (is_occupied_at slots) (λ k. false) (λ k small. free k) ∙ no_slot)

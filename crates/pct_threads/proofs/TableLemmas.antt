@@ -68,3 +68,7 @@ on_slot-then index f g slots =
       | inl inside ↦ ap (λ (s : Slot). slice_set (slice_set slots index first) index (g s)) (get_or-set_same slots index first unused inside) ∙ set-set slots index first (g first)
       | inr after ↦ ap (on_slot index g) (set_past slots index first after) ∙ set_past slots index (g (slot_at slots index)) after ∙ sym (set_past slots index (g first) after)
     ]
+
+-- a slot that can be reclaimed is occupied
+pub reclaimable : (slots : List Slot) (index : ℕ) → is_reclaimable_at slots index ≡ true → is_occupied_at slots index ≡ true
+reclaimable slots index holds = occupied-test is_reclaimable (slot_at slots index).here holds

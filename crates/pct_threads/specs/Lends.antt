@@ -1,16 +1,11 @@
--- What a table is after it lent the record of a thread, and a slot after it lent that of its thread.
+-- What a table is after it lent the record of a thread.
 use Rattle.std.specs.Prelude.{ℕ, List}
 use Rattle.std.specs.Borrow.{Lends, MutBor, Fml}
 use Rattle.pct_threads.specs.contracts.record.Thread.{the_row as thread_type}
-use Rattle.pct_threads.specs.contracts.row.Row.{the_row as slot_type}
 use Rattle.pct_threads.specs.contracts.threads.Threads.{the_row as table_type}
 use Rattle.pct_threads.specs.declared.record.Thread.{Thread}
-use Rattle.pct_threads.specs.Slots.{Slot, with_change, with_record}
+use Rattle.pct_threads.specs.Slots.{Slot, with_record}
 use Rattle.pct_threads.specs.Tables.{on_held}
-
--- after the borrow the slot has the record that r leaves
-abbrev pub LendsRecord : MutBor Slot → MutBor Thread → Fml
-LendsRecord s r = Lends slot_type thread_type s r (λ thread. with_change (with_record thread) s.now)
 
 -- after the borrow the thread on the slot has the record that r leaves
 abbrev pub LendsThread : MutBor (List Slot) → ℕ → MutBor Thread → Fml

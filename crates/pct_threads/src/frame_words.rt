@@ -1,52 +1,13 @@
-//! A frame as eleven words: the function, the program counter, the number of the kind, and the eight locals.
+//! The kind of a frame as a number, and as two words: its number, and the index of the once control whose init routine it is.
 
-ghost use Rattle.std.specs.Prelude.{◌≡◌, ◌<◌};
-ghost use Rattle.pct_model.specs.World.{new_frame};
-ghost use Rattle.pct_threads.specs.FrameWords.{kind_of, kind_number, frame_word_of, with_word};
+ghost use Rattle.std.specs.Prelude.{◌≡◌};
+ghost use Rattle.pct_threads.specs.FrameWords.{kind_of, kind_number};
+ghost use Rattle.pct_threads.specs.StackFrames.{kind_in};
 
-use pct_model::{Frame, FrameKind};
-
-/// A new frame of a function, at its first statement: `arg` is its first local, all others are 0.
-pub(crate) fn new_frame(func: u32, arg: u32, kind: FrameKind) -> Frame
-    ensures { result ≡ new_frame func arg kind }
-{
-    Frame {
-        func,
-        pc: 0,
-        locals: [arg, 0, 0, 0, 0, 0, 0, 0],
-        kind,
-    }
-}
-
-/// The word of the frame at index `i`.
-pub(crate) fn word_of(frame: &Frame, i: u32) -> u32
-    requires { i < 11 }
-    ensures { result ≡ frame_word_of frame.now i }
-{
-    match i {
-        0 => frame.func,
-        1 => frame.pc,
-        2 => kind_number(frame.kind),
-        _ => frame.locals[i as usize - 3],
-    }
-}
-
-/// The frame with a new value of its word at index `i`.
-pub(crate) fn with_word(frame: Frame, i: u32, value: u32) -> Frame
-    requires { i < 11 }
-    ensures { result ≡ with_word i value frame }
-{
-    let mut changed = frame;
-    match i {
-        0 => changed.func = value,
-        1 => changed.pc = value,
-        2 => changed.kind = kind_of(value),
-        _ => changed.locals[i as usize - 3] = value,
-    }
-    changed
-}
+use pct_model::FrameKind;
 
 /// The kind with this number.
+#[inline(always)]
 pub(crate) fn kind_of(number: u32) -> FrameKind
     ensures { result ≡ kind_of number }
 {
@@ -63,8 +24,45 @@ pub(crate) fn kind_of(number: u32) -> FrameKind
     }
 }
 
-// The number of a kind.
-fn kind_number(kind: FrameKind) -> u32
+/// The kind with this number, if it is below 8; else that of an init routine of this once control.
+#[inline(always)]
+pub(crate) fn kind_in(number: u32, once: u32) -> FrameKind
+    ensures { result ≡ kind_in number once }
+{
+    match number {
+        0 => FrameKind::Main,
+        1 => FrameKind::Start,
+        2 => FrameKind::Call,
+        3 => FrameKind::PopHandler,
+        4 => FrameKind::Handler,
+        5 => FrameKind::Destructor,
+        6 => FrameKind::ForkFn,
+        7 => FrameKind::ExitFn,
+        _ => FrameKind::OnceFn(once),
+    }
+}
+
+/// The two words of a kind: its number, which is 8 for each init routine, and the index of its once control.
+#[inline(always)]
+pub(crate) fn words_of_kind(kind: FrameKind) -> (u32, u32)
+    ensures { kind_in result.0 result.1 ≡ kind }
+{
+    match kind {
+        FrameKind::Main => (0, 0),
+        FrameKind::Start => (1, 0),
+        FrameKind::Call => (2, 0),
+        FrameKind::PopHandler => (3, 0),
+        FrameKind::Handler => (4, 0),
+        FrameKind::Destructor => (5, 0),
+        FrameKind::ForkFn => (6, 0),
+        FrameKind::ExitFn => (7, 0),
+        FrameKind::OnceFn(once) => (8, once),
+    }
+}
+
+/// The number of a kind, which has 32 bits.
+#[inline(always)]
+pub(crate) fn kind_number(kind: FrameKind) -> u32
     ensures { result ≡ kind_number kind }
 {
     match kind {

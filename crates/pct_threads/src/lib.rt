@@ -2,12 +2,15 @@
 //! pthread_join, pthread_detach). Only `Threads::new` allocates memory.
 #![tactic(auto)]
 
+mod frame_ref;
 mod frame_words;
+mod held;
 mod record;
 mod row;
 mod steps;
 mod threads;
 
+pub use frame_ref::{FrameRef, Frames};
 pub use record::{Place, Thread};
 pub use row::MAX_DEPTH;
 pub use steps::Steps;

@@ -1,17 +1,18 @@
 //! The table of the threads of one process.
 
-ghost use Rattle.std.specs.Prelude.{◌≡◌, ◌<◌, ◌≤◌, ◌&&◌, not, true, nat_lt, length, map, if◌then◌else◌, vec_capacity};
+ghost use Rattle.std.specs.Prelude.{◌≡◌, ◌<◌, ◌≤◌, ◌&&◌, ℕ, not, true, false, nat_lt, length, position, if◌then◌else◌, vec_capacity};
 ghost use Rattle.pct_model.specs.declared.limits.TheConstants.{MAX_SLOTS};
 ghost use Rattle.pct_model.specs.ThreadSlots.{slot_of};
-ghost use Rattle.pct_threads.specs.Slots.{freed};
+ghost use Rattle.pct_threads.specs.Rows.{is_row, row_at};
 ghost use Rattle.pct_set.specs.Slots.{with_slot, without_slot};
 
 use crate::frame_words::kind_of;
 use crate::row::Row;
-use crate::{Place, Steps, Thread};
+use crate::{FrameRef, Frames, Place, Steps, Thread, held};
 use pct_io::NoMemory;
-use pct_model::{Frame, FrameKind, MAX_SLOTS};
+use pct_model::{DEFAULT_SLOTS, FrameKind, MAX_SLOTS};
 use pct_set::SlotSet;
+use pct_stack::StackBlock;
 use std::alloc::Global;
 use std::marker::Model;
 use std::sync::ledger::Ledger;
@@ -23,10 +24,12 @@ use std::sync::ledger::Ledger;
 /// A slot argument is below the number of slots. Unless a call says otherwise, its slot is occupied.
 ///
 /// A table has memory for 64 slots, however many it has, so that no call but `new` takes memory.
-#[derive(Debug, Drop)]
+#[derive(Drop)]
 pub struct Threads {
     /// There is room for 64.
     rows: Vec<Row>,
+    /// The frames: 64 stack slots, however many slots the table has.
+    stacks: StackBlock,
     /// The slots that are occupied.
     occupied: SlotSet,
 }
@@ -35,18 +38,19 @@ impl Model for Threads {
     ghost use Rattle.std.specs.Prelude.{List, length, ◌≡◌, ◌≤◌, vec_capacity};
     ghost use Rattle.pct_model.specs.declared.limits.TheConstants.{MAX_SLOTS};
     ghost use Rattle.pct_set.specs.Slots.{slots_where};
+    ghost use Rattle.pct_threads.specs.Rows.{IsKept, slots_in};
     ghost use Rattle.pct_threads.specs.Slots.{Slot};
     ghost use Rattle.pct_threads.specs.Tables.{is_occupied_at};
 
     ghost Value = { List Slot };
 
-    ghost view = { λ t. t.rows.items };
+    ghost view = { λ t. slots_in t.rows.items t.stacks };
 
-    ghost invariant = { λ t. (1 ≤ length t.rows.items) × (length t.rows.items ≤ MAX_SLOTS) × (t.occupied ≡ slots_where (is_occupied_at t.rows.items)) × (MAX_SLOTS ≤ vec_capacity t.rows) };
+    ghost invariant = { λ t. (1 ≤ length t.rows.items) × IsKept t.rows.items t.stacks × (t.occupied ≡ slots_where (is_occupied_at (slots_in t.rows.items t.stacks))) × (MAX_SLOTS ≤ vec_capacity t.rows) };
 }
 
 impl Threads {
-    ghost use Rattle.std.specs.Prelude.{◌≡◌, ◌<◌, ◌≤◌, ◌+◌, ◌^◌, ◌-◌, true, length, map, position, replicate, reverse, slice_get, Some, IfOk, IfSome, option_map};
+    ghost use Rattle.std.specs.Prelude.{◌≡◌, ◌<◌, ◌≤◌, ◌+◌, ◌^◌, ◌-◌, true, length, position, replicate, slice_get, Some, IfOk, IfSome};
     ghost use Rattle.std.specs.Borrow.{sem};
     ghost use Rattle.pct_model.specs.declared.limits.TheConstants.{MAX_SLOTS};
     ghost use Rattle.pct_model.specs.ThreadSlots.{slot_of};
@@ -67,8 +71,10 @@ impl Threads {
         for _ in 0..slots {
             rows.push(Row::new())?;
         }
+        let stacks = StackBlock::new(alloc, MAX_SLOTS, held::STACK_WORDS)?;
         Ok(Threads {
             rows,
+            stacks,
             occupied: SlotSet::new(),
         })
     }
@@ -96,7 +102,7 @@ impl Threads {
         requires { slot < length self.now }
         ensures { result ≡ is_occupied_at self.now slot }
     {
-        self.row(slot).is_occupied()
+        self.rows[slot as usize].occupied
     }
 
     /// Whether the slot is occupied by the thread with this id.
@@ -104,7 +110,7 @@ impl Threads {
         requires { slot < length self.now }
         ensures { result ≡ has_id id (slot_at self.now slot) }
     {
-        self.row(slot).has_id(id)
+        self.rows[slot as usize].has_id(id)
     }
 
     /// The slot of the thread with this id. It is `None` exactly if no thread with the id holds its slot.
@@ -159,7 +165,7 @@ impl Threads {
         ensures value { place_at self.now slot ≡ Some result }
         ensures fits { result.depth ≤ MAX_DEPTH }
     {
-        self.row(slot).place()
+        self.rows[slot as usize].place()
     }
 
     /// The id of the next thread on the slot, which may be free: the slot's index plus 1, plus the number of slots times
@@ -169,7 +175,7 @@ impl Threads {
         requires fits { next_id_at self.now slot < 2 ^ 32 }
         ensures { result ≡ next_id_at self.now slot }
     {
-        self.slot_count() * self.row(slot).made() + slot + 1
+        self.slot_count() * self.rows[slot as usize].made + slot + 1
     }
 
     /// Creates a thread on a free slot, with one frame of `func` with `arg` (pthread_create). Returns its id, that of
@@ -182,7 +188,8 @@ impl Threads {
         ensures table { self.new ≡ with_created slot func arg detached self.old }
     {
         let id = self.next_id(slot);
-        self.rows[slot as usize].create(id, func, arg, detached);
+        let row = &mut self.rows[slot as usize];
+        held::create(row, &mut self.stacks, slot, id, func, arg, detached);
         self.occupied.insert(slot);
         id
     }
@@ -194,7 +201,7 @@ impl Threads {
         ensures count { steps.new ≡ steps.old + 1 }
     {
         steps.tick();
-        self.row(slot).thread()
+        &self.rows[slot as usize].thread
     }
 
     /// The record of the thread, for changes. It is counted.
@@ -205,7 +212,7 @@ impl Threads {
         ensures count { steps.new ≡ steps.old + 1 }
     {
         steps.tick();
-        self.rows[slot as usize].thread_mut()
+        &mut self.rows[slot as usize].thread
     }
 
     /// Ends the thread: its status becomes `Ended` with this value. A detached thread gives back its slot.
@@ -214,8 +221,8 @@ impl Threads {
         ensures { self.new ≡ with_end slot value self.old }
     {
         let row = &mut self.rows[slot as usize];
-        row.end(value);
-        retain_if(&mut self.occupied, slot, row.is_occupied());
+        held::end(row, &mut self.stacks, slot, value);
+        retain_if(&mut self.occupied, slot, row.occupied);
     }
 
     /// Gives back the slot of a thread that has ended and is detached. Nothing changes if the thread is another one.
@@ -224,8 +231,8 @@ impl Threads {
         ensures { self.new ≡ on_slot slot (after_change unless_reclaimed) self.old }
     {
         let row = &mut self.rows[slot as usize];
-        row.settle();
-        retain_if(&mut self.occupied, slot, row.is_occupied());
+        held::settle(row, &mut self.stacks, slot);
+        retain_if(&mut self.occupied, slot, row.occupied);
     }
 
     /// Gives back the slot of a thread that was joined (pthread_join): it has ended, and is not detached.
@@ -233,7 +240,8 @@ impl Threads {
         requires { is_reclaimable_at self.old slot ≡ true }
         ensures { self.new ≡ on_slot slot freed self.old }
     {
-        self.rows[slot as usize].free();
+        let row = &mut self.rows[slot as usize];
+        held::free(row, &mut self.stacks, slot);
         self.occupied.remove(slot);
     }
 
@@ -243,8 +251,8 @@ impl Threads {
         ensures { self.new ≡ with_detach slot self.old }
     {
         let row = &mut self.rows[slot as usize];
-        row.detach();
-        retain_if(&mut self.occupied, slot, row.is_occupied());
+        held::detach(row, &mut self.stacks, slot);
+        retain_if(&mut self.occupied, slot, row.occupied);
     }
 
     /// Makes this the table of the child process of a thread (fork). The other table is that of the parent, and the thread's
@@ -254,26 +262,36 @@ impl Threads {
         requires { is_occupied_at other.now slot ≡ true }
         ensures { self.new ≡ replica_of slot other.now }
     {
-        free_as(&mut self.rows, other);
-        self.rows[slot as usize].copy_from(other.row(slot));
+        free_as(&mut self.rows, &other.rows);
+        self.stacks.reset(None);
+        let row = &mut self.rows[slot as usize];
+        held::copy(
+            row,
+            &mut self.stacks,
+            &other.rows[slot as usize],
+            &other.stacks,
+            slot,
+        );
         self.occupied = SlotSet::new();
         self.occupied.insert(slot);
     }
 
     /// The newest frame of the thread. It is `None` exactly if the thread has no frame.
-    pub fn top_frame(&self, slot: u32) -> Option<&Frame>
+    #[inline(always)]
+    pub fn top_frame(&self, slot: u32) -> Option<FrameRef<'_>>
         requires { is_occupied_at self.now slot ≡ true }
-        ensures { option_map (λ frame. frame.now) result ≡ slice_get (frames_at self.now slot) 0 }
+        ensures { result ≡ slice_get (frames_at self.now slot) 0 }
     {
-        self.row(slot).top_frame()
+        FrameRef::top(&self.rows[slot as usize], &self.stacks, slot)
     }
 
-    /// The frames of the thread, the oldest first.
-    pub fn frames(&self, slot: u32) -> &[Frame]
+    /// The frames of the thread, the newest first.
+    #[inline(always)]
+    pub fn frames(&self, slot: u32) -> Frames<'_>
         requires { is_occupied_at self.now slot ≡ true }
-        ensures { reverse result.now ≡ frames_at self.now slot }
+        ensures { result ≡ frames_at self.now slot }
     {
-        self.row(slot).frames()
+        Frames::new(&self.rows[slot as usize], &self.stacks, slot)
     }
 
     /// Adds a frame of `func`, at its first statement, to a thread with fewer than 17 frames. The frame's first local is
@@ -294,7 +312,8 @@ impl Threads {
         requires room { length (frames_at self.old slot) < MAX_DEPTH }
         ensures { self.new ≡ on_held slot (with_call func arg kind) self.old }
     {
-        self.rows[slot as usize].call(func, arg, kind);
+        let row = &mut self.rows[slot as usize];
+        held::call(row, &mut self.stacks, slot, func, arg, kind);
     }
 
     /// Adds a frame as `call` does, after it removed all others.
@@ -302,7 +321,8 @@ impl Threads {
         requires { is_occupied_at self.old slot ≡ true }
         ensures { self.new ≡ on_held slot (with_call_alone func arg kind) self.old }
     {
-        self.rows[slot as usize].call_alone(func, arg, kind);
+        let row = &mut self.rows[slot as usize];
+        held::call_alone(row, &mut self.stacks, slot, func, arg, kind);
     }
 
     /// Sets the program counter of the newest frame. Nothing changes if the thread has no frame.
@@ -310,7 +330,7 @@ impl Threads {
         requires { is_occupied_at self.old slot ≡ true }
         ensures { self.new ≡ on_held slot (with_pc pc) self.old }
     {
-        self.rows[slot as usize].set_pc(pc);
+        held::set_pc(&self.rows[slot as usize], &mut self.stacks, slot, pc);
     }
 
     /// Sets a local of the newest frame. Nothing changes if the thread has no frame, or the frame no such local.
@@ -318,7 +338,7 @@ impl Threads {
         requires { is_occupied_at self.old slot ≡ true }
         ensures { self.new ≡ on_held slot (with_local i value) self.old }
     {
-        self.rows[slot as usize].set_local(i, value);
+        held::set_local(&self.rows[slot as usize], &mut self.stacks, slot, i, value);
     }
 
     /// Removes the newest frame of a thread that has a frame.
@@ -326,7 +346,8 @@ impl Threads {
         requires { 0 < length (frames_at self.old slot) }
         ensures { self.new ≡ on_held slot without_frame self.old }
     {
-        self.rows[slot as usize].pop_frame();
+        let row = &mut self.rows[slot as usize];
+        held::pop_frame(row, &self.stacks, slot);
     }
 
     /// Removes all frames of the thread.
@@ -334,7 +355,8 @@ impl Threads {
         requires { is_occupied_at self.old slot ≡ true }
         ensures { self.new ≡ on_held slot without_frames self.old }
     {
-        self.rows[slot as usize].drop_frames();
+        let row = &mut self.rows[slot as usize];
+        held::drop_frames(row, &self.stacks, slot);
     }
 
     /// A word of a frame. Frames are counted from the oldest, which is 0. The words are the function, the program counter,
@@ -344,7 +366,7 @@ impl Threads {
         requires word { i < 11 }
         ensures { result ≡ frame_word_of (frame_at (frames_at self.now slot) frame) i }
     {
-        self.row(slot).frame_word(frame, i)
+        held::frame_word(&self.rows[slot as usize], &self.stacks, slot, frame, i)
     }
 
     /// Sets a word of a frame, both named as in `frame_word`.
@@ -353,15 +375,8 @@ impl Threads {
         requires word { i < 11 }
         ensures { self.new ≡ on_held slot (with_frame_word frame i value) self.old }
     {
-        self.rows[slot as usize].set_frame_word(frame, i, value);
-    }
-
-    // The slot with this index.
-    fn row(&self, slot: u32) -> &Row
-        requires { slot < length self.now }
-        ensures { result.now ≡ slot_at self.now slot }
-    {
-        &self.rows[slot as usize]
+        let row = &self.rows[slot as usize];
+        held::set_frame_word(row, &mut self.stacks, slot, frame, i, value);
     }
 
     // The index of the first slot whose thread has this id.
@@ -369,22 +384,32 @@ impl Threads {
         ensures value { result ≡ position (has_id id) self.now }
         ensures few { length self.now ≤ MAX_SLOTS }
     {
-        self.rows.iter().position(|row| row.has_id(id))
+        row_with(&self.rows, id)
     }
 }
 
-// Makes the number of slots that of the other table, gives back every slot, and makes the number of threads ever created on each
-// that of the other table.
-fn free_as(rows: &mut Vec<Row>, other: &Threads)
-    requires { MAX_SLOTS ≤ vec_capacity rows.old }
-    ensures slots { rows.new.items ≡ map freed other.now }
-    ensures few { length other.now ≤ MAX_SLOTS }
+// The index of the first row whose thread has this id.
+fn row_with(rows: &Vec<Row>, id: u32) -> Option<usize>
+    ensures { result ≡ position (is_row id) rows.now.items }
+{
+    rows.iter().position(|row| row.has_id(id))
+}
+
+// Makes the number of rows that of the other rows, gives back every slot, and makes the number of threads ever created on each that of
+// the other.
+fn free_as(rows: &mut Vec<Row>, other: &Vec<Row>)
+    requires few { length other.now.items ≤ MAX_SLOTS }
+    requires room { MAX_SLOTS ≤ vec_capacity rows.old }
+    ensures long { length rows.new.items ≡ length other.now.items }
+    ensures made { (i : ℕ) → (row_at rows.new.items i).made ≡ (row_at other.now.items i).made }
+    ensures free { (i : ℕ) → (row_at rows.new.items i).occupied ≡ false }
+    ensures deep { (i : ℕ) → (row_at rows.new.items i).depth ≤ 17 }
     ensures room { MAX_SLOTS ≤ vec_capacity rows.new }
 {
-    let count = other.slot_count();
-    rows.resize_with(count as usize, Row::new).unwrap();
+    let count = other.len();
+    rows.resize_with(count, Row::new).unwrap();
     for slot in 0..count {
-        rows[slot as usize].free_as(other.row(slot));
+        rows[slot].free_as(&other[slot]);
     }
 }
 
@@ -415,6 +440,12 @@ pub fn slot_of(slots: u32, id: u32) -> u32
     ensures within { result < slots }
 {
     let index = id.saturating_sub(1);
-    // A division is dear, and few ids are above the number of slots.
-    if index < slots { index } else { index % slots }
+    // A division is dear. It is left for ids above the number of slots, where that is not the number of a run without options.
+    if index < slots {
+        index
+    } else if slots == DEFAULT_SLOTS {
+        index % DEFAULT_SLOTS
+    } else {
+        index % slots
+    }
 }

@@ -1,5 +1,6 @@
 pub mod Bodies
 pub mod Fits
+pub mod HandlerFrames
 pub mod HandlerScans
 pub mod ListedChoices
 pub mod KeyChoices

@@ -10,11 +10,11 @@ use Rattle.pct_transitions.specs.declared.position.Position.{Position}
 -- the next statement of a thread
 abbrev pub next_at : Option At → NextStatement
 next_at None = NoStatement
-next_at (Some at) = StatementIn at.frame.now at.statement.now
+next_at (Some at) = StatementIn at.frame at.statement.now
 
 -- the statement is the one at the frame's pc
 abbrev pub IsAt : Script → At → Type 0
-IsAt script at = statement_at script at.frame.now ≡ Some at.statement.now
+IsAt script at = statement_at script at.frame ≡ Some at.statement.now
 
 -- the next statement is decoded
 abbrev pub IsDecoded : Script → Option At → Type 0

@@ -193,10 +193,10 @@ pub(crate) fn passes_point(context: &Context, index: u32, transition: &mut Trans
 #[tactic(auto, using(crate::proofs::Bodies::pc_within), unfolding(pct_model::specs::CancelCalls::passes_point))]
 fn passes_in(context: &Context, at: &At, index: u32) -> Transition
     requires { IsAt context.now.program.now.script at.now }
-    ensures { result ≡ passes_point index (StatementIn at.now.frame.now at.now.statement.now) }
+    ensures { result ≡ passes_point index (StatementIn at.now.frame at.now.statement.now) }
 {
     match at.statement {
-        Stmt::PointCall(_) => passes(next_pc(at.frame), index),
+        Stmt::PointCall(_) => passes(next_pc(&at.frame), index),
         _ => no_change(),
     }
 }

@@ -377,7 +377,7 @@ fn ending_choices(context: &Context) -> Choices
 fn running_choices(context: &Context, at: &At) -> Choices
     requires { IsWhole context.now }
     ensures value { (shared : SharedState) (t : Thread) (environment : Environment) → IsContext shared t environment context.now
-        → listed context.now.threads.now context.now.position.keys.now result ≡ running_choices (body_of context.now.program.now.script at.now.frame.now.func) shared t environment at.now.frame.now at.now.statement.now }
+        → listed context.now.threads.now context.now.position.keys.now result ≡ running_choices (body_of context.now.program.now.script at.now.frame.func) shared t environment at.now.frame at.now.statement.now }
     ensures within { AreWithin context.now.threads.now result }
 {
     let cancel = &context.position.thread.cancel;

@@ -92,14 +92,14 @@ fn times_out(context: &Context, mutex: u32, transition: &mut Transition)
 #[tactic(auto, using(crate::proofs::Bodies::pc_within), unfolding(pct_model::specs::CondCalls::reacquires))]
 fn times_out_in(context: &Context, at: &At, mutex: u32) -> Transition
     requires { IsAt context.now.program.now.script at.now }
-    ensures { (cond : ℕ) → result ≡ reacquires context.now.position.id cond mutex cause.TimedOut (StatementIn at.now.frame.now at.now.statement.now) }
+    ensures { (cond : ℕ) → result ≡ reacquires context.now.position.id cond mutex cause.TimedOut (StatementIn at.now.frame at.now.statement.now) }
 {
     match at.statement {
         Stmt::CondTimedWait { result: answer, .. } => Transition {
             writes: UpToThree::one((*answer, ETIMEDOUT)),
             shared: Some(SharedAction::OwnMutex(mutex, context.position.id)),
             ..goes_on(
-                next_pc(at.frame),
+                next_pc(&at.frame),
                 UpToThree::two(
                     What::Acquired(mutex),
                     What::Answer {
@@ -130,14 +130,14 @@ fn returns_from_wait(context: &Context, mutex: u32, transition: &mut Transition)
 #[tactic(auto, using(crate::proofs::Bodies::pc_within), unfolding(pct_model::specs::CondCalls::reacquires))]
 fn returns_in(context: &Context, at: &At, mutex: u32) -> Transition
     requires { IsAt context.now.program.now.script at.now }
-    ensures signalled { (cond : ℕ) → result ≡ reacquires context.now.position.id cond mutex cause.Signalled (StatementIn at.now.frame.now at.now.statement.now) }
-    ensures broadcast { (cond : ℕ) → result ≡ reacquires context.now.position.id cond mutex cause.Broadcast (StatementIn at.now.frame.now at.now.statement.now) }
+    ensures signalled { (cond : ℕ) → result ≡ reacquires context.now.position.id cond mutex cause.Signalled (StatementIn at.now.frame at.now.statement.now) }
+    ensures broadcast { (cond : ℕ) → result ≡ reacquires context.now.position.id cond mutex cause.Broadcast (StatementIn at.now.frame at.now.statement.now) }
 {
     match at.statement {
         Stmt::CondWait { .. } => Transition {
             shared: Some(SharedAction::OwnMutex(mutex, context.position.id)),
             ..goes_on(
-                next_pc(at.frame),
+                next_pc(&at.frame),
                 UpToThree::two(What::Acquired(mutex), What::Done(COND_WAIT_POINT)),
             )
         },
@@ -145,7 +145,7 @@ fn returns_in(context: &Context, at: &At, mutex: u32) -> Transition
             writes: UpToThree::one((*answer, 0)),
             shared: Some(SharedAction::OwnMutex(mutex, context.position.id)),
             ..goes_on(
-                next_pc(at.frame),
+                next_pc(&at.frame),
                 UpToThree::two(What::Acquired(mutex), What::Done(COND_TIMEDWAIT_POINT)),
             )
         },

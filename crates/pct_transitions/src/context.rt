@@ -1,6 +1,6 @@
 //! What the next step of a thread depends on.
 
-ghost use Rattle.std.specs.Prelude.{◌≡◌, ◌+◌, ◌<◌, Some, is_some, length, reverse, true};
+ghost use Rattle.std.specs.Prelude.{◌≡◌, ◌+◌, ◌<◌, Some, is_some, length, true};
 ghost use Rattle.pct_model.specs.Formats.{has_timeouts};
 ghost use Rattle.pct_model.specs.World.{Thread};
 ghost use Rattle.pct_engine_laws.specs.SeenSteps.{environment_in};
@@ -13,9 +13,9 @@ ghost use Rattle.pct_transitions.specs.ProcessSteps.{NewNumbersFit};
 
 use crate::position::{Position, position_of};
 use crate::program::Program;
-use pct_model::{Frame, OnceState};
+use pct_model::OnceState;
 use pct_process::{ExitFunctions, Family, ForkRegistrations, ProcessState, Standings};
-use pct_threads::{Steps, Threads};
+use pct_threads::{Frames, Steps, Threads};
 use std::marker::Brand;
 use std::sync::ledger::{Blank, Ledger};
 
@@ -30,7 +30,7 @@ pub struct Surroundings<'a> {
 /// stand, and the other processes. In a contract, `IsContext` says of which thread this is the context.
 ///
 /// A call that takes a context in every step is best inline: a context that is passed by reference is written to memory as a whole.
-#[derive(Clone, Copy)]
+#[derive(Drop)]
 pub(crate) struct Context<'a> {
     pub program: &'a Program,
     /// The other processes.
@@ -179,11 +179,11 @@ impl<'a> Context<'a> {
         process.restricted
     }
 
-    /// The frames of the thread, the oldest first.
+    /// The frames of the thread, the newest first.
     #[inline(always)]
-    pub(crate) fn frames(&self) -> &'a [Frame]
+    pub(crate) fn frames(&self) -> Frames<'a>
         requires { IsWhole self.now }
-        ensures { reverse result.now ≡ frames_at self.now.threads.now self.now.position.slot }
+        ensures { result ≡ frames_at self.now.threads.now self.now.position.slot }
     {
         self.threads.frames(self.position.slot)
     }

@@ -9,23 +9,24 @@ ghost use Rattle.pct_model.specs.ChoiceTable.{is_timed_wait};
 ghost use Rattle.pct_model.specs.NextStatement.{next_of};
 ghost use Rattle.pct_transitions.specs.Positions.{next_at, IsDecoded};
 
-use pct_model::{Dest, Frame, Operand, Script, Stmt};
+use pct_model::{Dest, Operand, Script, Stmt};
+use pct_threads::FrameRef;
 
 /// The statement at the program counter of a frame.
-#[derive(Clone, Copy)]
+#[derive(Drop)]
 pub struct At<'a> {
-    pub frame: &'a Frame,
+    pub frame: FrameRef<'a>,
     pub statement: &'a Stmt,
 }
 
 /// The next statement of a thread with this top frame. `None` if there is no frame, or no statement at its program counter.
-pub fn next_of<'a>(script: &'a Script, top: Option<&'a Frame>) -> Option<At<'a>>
-    ensures next { (frames : List FrameRecord) → option_map (λ frame. frame.now) top.entry ≡ slice_get frames 0 → next_at result ≡ next_of script.now frames }
+pub fn next_of<'a>(script: &'a Script, top: Option<FrameRef<'a>>) -> Option<At<'a>>
+    ensures next { (frames : List FrameRecord) → top.entry ≡ slice_get frames 0 → next_at result ≡ next_of script.now frames }
     ensures decoded { IsDecoded script.now result }
 {
     match top {
         None => None,
-        Some(frame) => match statement_at(script, frame) {
+        Some(frame) => match statement_at(script, &frame) {
             None => None,
             Some(statement) => Some(At { frame, statement }),
         },
@@ -44,13 +45,13 @@ pub(crate) fn is_timed_next(next: &Option<At>) -> bool
 
 /// The statement at a frame's program counter. `None` if the function has no statement there.
 #[tactic(auto, using(std::proofs::lemmas::Option::slice_get_past), unfolding(pct_model::specs::World::statement_at))]
-pub(crate) fn statement_at<'a>(script: &'a Script, frame: &Frame) -> Option<&'a Stmt>
+pub(crate) fn statement_at<'a>(script: &'a Script, frame: &FrameRef) -> Option<&'a Stmt>
     ensures value { option_map (λ statement. statement.now) result ≡ statement_at script.now frame.now }
     ensures pc { IfSome result (λ _. frame.now.pc < MAX_STATEMENTS) }
 {
-    let func = script.funcs.as_slice().get(frame.func as usize)?;
+    let func = script.funcs.as_slice().get(frame.func() as usize)?;
     let body = func.body.as_slice();
-    let pc = frame.pc as usize;
+    let pc = frame.pc() as usize;
     if pc < body.len() {
         Some(&body[pc])
     } else {
@@ -59,33 +60,33 @@ pub(crate) fn statement_at<'a>(script: &'a Script, frame: &Frame) -> Option<&'a 
 }
 
 /// The program counter of the statement after a frame's.
-pub(crate) fn next_pc(frame: &Frame) -> u32
+pub(crate) fn next_pc(frame: &FrameRef) -> u32
     requires { frame.now.pc < MAX_STATEMENTS }
     ensures { result ≡ suc frame.now.pc }
 {
-    frame.pc + 1
+    frame.pc() + 1
 }
 
 /// The value of an operand in a frame, with the globals of its process: a number is its own value.
 #[tactic(auto, unfolding(pct_model::specs::World::value_of))]
-pub(crate) fn value_of(globals: &[u32], frame: &Frame, operand: Operand) -> u32
+pub(crate) fn value_of(globals: &[u32], frame: &FrameRef, operand: Operand) -> u32
     ensures { result ≡ value_of globals.now frame.now operand }
 {
     match operand {
         Operand::Num(n) => n,
-        Operand::Local(i) => frame.locals.get(i as usize).copied().unwrap_or(0),
+        Operand::Local(i) => frame.local(i),
         Operand::Global(i) => globals.get(i as usize).copied().unwrap_or(0),
     }
 }
 
 /// The value of a variable in a frame, with the globals of its process; `-` has the value 0.
 #[tactic(auto, unfolding(pct_model::specs::ScriptStatements::variable_value))]
-pub(crate) fn variable_value(globals: &[u32], frame: &Frame, dest: Dest) -> u32
+pub(crate) fn variable_value(globals: &[u32], frame: &FrameRef, dest: Dest) -> u32
     ensures { result ≡ variable_value globals.now frame.now dest }
 {
     match dest {
         Dest::Drop => 0,
-        Dest::Local(i) => frame.locals.get(i as usize).copied().unwrap_or(0),
+        Dest::Local(i) => frame.local(i),
         Dest::Global(i) => globals.get(i as usize).copied().unwrap_or(0),
     }
 }

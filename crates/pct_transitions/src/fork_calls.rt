@@ -244,14 +244,14 @@ fn after_fork(length: u32, answer: u32) -> ForkAt
 #[inline(always)]
 fn returns_in_parent(context: &Context, at: &At, pid: u32) -> Transition
     requires { IsAt context.now.program.now.script at.now }
-    ensures { (forking : ForkValues) (new_pid : Option ℕ) → forking.answer ≡ pid → result ≡ goes_on_after_handlers phases.Parent forking new_pid (StatementIn at.now.frame.now at.now.statement.now) }
+    ensures { (forking : ForkValues) (new_pid : Option ℕ) → forking.answer ≡ pid → result ≡ goes_on_after_handlers phases.Parent forking new_pid (StatementIn at.now.frame at.now.statement.now) }
 {
     match at.statement {
         Stmt::Fork {
             result: answer,
             child,
         } => {
-            let next = next_pc(at.frame);
+            let next = next_pc(&at.frame);
             if pid == 0 {
                 Transition {
                     writes: UpToThree::one((*answer, EAGAIN)),
@@ -273,7 +273,7 @@ fn returns_in_parent(context: &Context, at: &At, pid: u32) -> Transition
 #[inline(always)]
 fn returns_in_child(context: &Context, at: &At) -> Transition
     requires { IsAt context.now.program.now.script at.now }
-    ensures { (forking : ForkValues) (new_pid : Option ℕ) → result ≡ goes_on_after_handlers phases.Child forking new_pid (StatementIn at.now.frame.now at.now.statement.now) }
+    ensures { (forking : ForkValues) (new_pid : Option ℕ) → result ≡ goes_on_after_handlers phases.Child forking new_pid (StatementIn at.now.frame at.now.statement.now) }
 {
     match at.statement {
         Stmt::Fork {
@@ -281,7 +281,7 @@ fn returns_in_child(context: &Context, at: &At) -> Transition
             child,
         } => Transition {
             writes: UpToThree::two((*answer, 0), (*child, 0)),
-            ..goes_on(next_pc(at.frame), UpToThree::none())
+            ..goes_on(next_pc(&at.frame), UpToThree::none())
         },
         _ => no_change(),
     }
@@ -330,7 +330,7 @@ pub(crate) fn waits_at(context: &Context, pid: u32, transition: &mut Transition)
 #[inline(always)]
 fn waits_in(context: &Context, at: &At, pid: u32) -> Transition
     requires { IsAt context.now.program.now.script at.now }
-    ensures { (environment : Environment) → IsEnvironment context.now environment → result ≡ waits_at (environment.family.child pid) pid (StatementIn at.now.frame.now at.now.statement.now) }
+    ensures { (environment : Environment) → IsEnvironment context.now environment → result ≡ waits_at (environment.family.child pid) pid (StatementIn at.now.frame at.now.statement.now) }
 {
     match at.statement {
         Stmt::WaitPid {
@@ -338,13 +338,16 @@ fn waits_in(context: &Context, at: &At, pid: u32) -> Transition
             value,
             ..
         } => match context.child(pid) {
-            None => finds_no_child(next_pc(at.frame), *answer),
+            None => finds_no_child(next_pc(&at.frame), *answer),
             Some(child) => match child.ended {
                 None => no_change(),
                 Some(status) => Transition {
                     writes: UpToThree::two((*answer, 0), (*value, status)),
                     process: Some(ProcessAction::Reap(pid)),
-                    ..goes_on(next_pc(at.frame), UpToThree::one(What::Reaped(pid, status)))
+                    ..goes_on(
+                        next_pc(&at.frame),
+                        UpToThree::one(What::Reaped(pid, status)),
+                    )
                 },
             },
         },

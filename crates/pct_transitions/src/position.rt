@@ -15,7 +15,7 @@ use std::sync::ledger::Ledger;
 
 /// What a step reads of a thread; its next statement is decoded. In a contract, `IsPosition` says of which threads this is
 /// the position.
-#[derive(Clone, Copy)]
+#[derive(Drop)]
 pub struct Position<'a> {
     /// The id of the thread.
     pub id: u32,

@@ -104,15 +104,15 @@ pub fn is_met(around: Surroundings, process: &ProcessState, when: ReadyWhen) -> 
 // the call, which then is a stop.
 #[tactic(auto, unfolding(crate::specs::Readiness::running_when))]
 fn running_when(restricted: bool, cancel: &Cancel, at: &At) -> ReadyWhen
-    ensures { result ≡ running_when restricted cancel.now.state cancel.now.mode at.now.frame.now at.now.statement.now }
+    ensures { result ≡ running_when restricted cancel.now.state cancel.now.mode at.now.frame at.now.statement.now }
 {
     match at.statement {
         Stmt::Lock(mutex) => now_or(
-            cancel.async_on() || is_call_forbidden(restricted, at.frame.kind),
+            cancel.async_on() || is_call_forbidden(restricted, at.frame.kind()),
             ReadyWhen::MutexFree(*mutex),
         ),
         Stmt::CallOnce { once, .. } => now_or(
-            cancel.async_on() || is_call_forbidden(restricted, at.frame.kind),
+            cancel.async_on() || is_call_forbidden(restricted, at.frame.kind()),
             ReadyWhen::OnceNotBusy(*once),
         ),
         _ => ReadyWhen::Now,

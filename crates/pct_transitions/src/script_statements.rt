@@ -14,8 +14,8 @@ use crate::current::{At, next_pc};
 use crate::process_exit::returns_by;
 use crate::program::Program;
 use crate::transitions::goes_on;
-use pct_model::{Dest, Frame, FrameKind, OwnAction, Script, Stmt, Transition, UpToThree, What};
-use pct_threads::Thread;
+use pct_model::{Dest, FrameKind, OwnAction, Script, Stmt, Transition, UpToThree, What};
+use pct_threads::{FrameRef, Thread};
 
 /// `nop`, and each statement that only goes to a program counter.
 #[tactic(auto, unfolding(pct_model::specs::ScriptStatements::jumps))]
@@ -71,15 +71,15 @@ pub(crate) fn calls(next: u32, func: u32, arg: u32) -> Transition
 pub(crate) fn ends_block(
     program: &Program,
     thread: &Thread,
-    frame: &Frame,
+    frame: &FrameRef,
     transition: &mut Transition,
 )
     requires { frame.now.pc < MAX_STATEMENTS }
     ensures { let body = body_of program.now.script frame.now.func in transition.new ≡ ends_block (open_of body frame.now.pc) thread.now.kept body frame.now }
 {
-    match program.jumps.open_of(frame.func, frame.pc) {
+    match program.jumps.open_of(frame.func(), frame.pc()) {
         Some(opened) => *transition = jumps(after_end(&program.script, frame, opened)),
-        None => returns_by(thread, frame.kind, 0, transition),
+        None => returns_by(thread, frame.kind(), 0, transition),
     }
 }
 
@@ -89,32 +89,32 @@ pub(crate) fn ends_block(
 pub(crate) fn after_block(program: &Program, at: &At) -> u32
     requires at { IsAt program.now.script at.now }
     requires opens { opens_block at.now.statement.now ≡ true }
-    ensures { result ≡ after_block (body_of program.now.script at.now.frame.now.func) at.now.frame.now.pc }
+    ensures { result ≡ after_block (body_of program.now.script at.now.frame.func) at.now.frame.pc }
 {
-    program.jumps.close_of(at.frame.func, at.frame.pc) + 1
+    program.jumps.close_of(at.frame.func(), at.frame.pc()) + 1
 }
 
 /// The program counter after a frame's `if` or `while` with this value.
 pub(crate) fn after_test(program: &Program, at: &At, value: u32) -> u32
     requires at { IsAt program.now.script at.now }
     requires opens { opens_block at.now.statement.now ≡ true }
-    requires pc { at.now.frame.now.pc < MAX_STATEMENTS }
-    ensures { result ≡ after_test (body_of program.now.script at.now.frame.now.func) at.now.frame.now.pc value }
+    requires pc { at.now.frame.pc < MAX_STATEMENTS }
+    ensures { result ≡ after_test (body_of program.now.script at.now.frame.func) at.now.frame.pc value }
 {
     if value == 0 {
         after_block(program, at)
     } else {
-        next_pc(at.frame)
+        next_pc(&at.frame)
     }
 }
 
 /// The program counter after a frame's `end`, which closes the block that is opened at a program counter: of a `while`, that
 /// `while`.
-pub(crate) fn after_end(script: &Script, frame: &Frame, opened: u32) -> u32
+pub(crate) fn after_end(script: &Script, frame: &FrameRef, opened: u32) -> u32
     requires { frame.now.pc < MAX_STATEMENTS }
     ensures { result ≡ after_end (body_of script.now frame.now.func) frame.now.pc opened }
 {
-    if is_while_at(script, frame.func, opened) {
+    if is_while_at(script, frame.func(), opened) {
         opened
     } else {
         next_pc(frame)

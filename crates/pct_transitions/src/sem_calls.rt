@@ -53,15 +53,15 @@ pub(crate) fn ends_sem_wait(context: &Context, choice: Alt, sem: u32, transition
 #[tactic(auto, using(crate::proofs::Bodies::pc_within), unfolding(pct_model::specs::SemCalls::ends_sem_wait))]
 fn ends_sem_wait_in(context: &Context, at: &At, choice: Alt, sem: u32) -> Transition
     requires { IsAt context.now.program.now.script at.now }
-    ensures { result ≡ ends_sem_wait choice sem (slice_index context.now.process.now.shared.counts sem) (StatementIn at.now.frame.now at.now.statement.now) }
+    ensures { result ≡ ends_sem_wait choice sem (slice_index context.now.process.now.shared.counts sem) (StatementIn at.now.frame at.now.statement.now) }
 {
     match at.statement {
-        Stmt::SemWait(_) => takes(next_pc(at.frame), sem, count_of(context.counts(), sem)),
+        Stmt::SemWait(_) => takes(next_pc(&at.frame), sem, count_of(context.counts(), sem)),
         Stmt::SemTimedWait { result: answer, .. } => match choice {
-            Alt::Expire => fails(next_pc(at.frame), *answer, Caller::SemTimedWait, ETIMEDOUT),
+            Alt::Expire => fails(next_pc(&at.frame), *answer, Caller::SemTimedWait, ETIMEDOUT),
             _ => Transition {
                 writes: UpToThree::one((*answer, 0)),
-                ..takes(next_pc(at.frame), sem, count_of(context.counts(), sem))
+                ..takes(next_pc(&at.frame), sem, count_of(context.counts(), sem))
             },
         },
         _ => no_change(),

@@ -1,7 +1,8 @@
 //! The stops: uses that POSIX leaves undefined, further uses that this host reports as undefined by its choice, its limits, and
 //! what it leaves out.
 
-ghost use Rattle.std.specs.Prelude.{◌≡◌, ◌&&◌, ◌∷◌, [], List, length, not, reverse, nat_eq, nat_lt, is_none};
+ghost use Rattle.std.specs.Prelude.{◌≡◌, ◌&&◌, ◌∷◌, [], List, false, length, not, nat_eq, nat_lt, is_none, slice_get};
+ghost use Rattle.std.specs.Option.{option_map_or};
 ghost use Rattle.pct_model.specs.declared.stop.Why.TheVariants as why;
 ghost use Rattle.pct_model.specs.declared.frame.Frame.{Frame as FrameRecord};
 ghost use Rattle.pct_model.specs.declared.limits.TheConstants.{MAX_HANDLERS};
@@ -19,9 +20,10 @@ use crate::once_calls::{is_fresh, once_at};
 use crate::program::Program;
 use pct_keys::Keys;
 use pct_model::{
-    CLOSE_POINT, Frame, FrameKind, MAX_FRAMES, MAX_HANDLERS, OPEN_POINT, PAUSE_POINT, READ_POINT,
-    Reason, SLEEP_POINT, Stmt, WRITE_POINT, Why,
+    CLOSE_POINT, FrameKind, MAX_FRAMES, MAX_HANDLERS, OPEN_POINT, PAUSE_POINT, READ_POINT, Reason,
+    SLEEP_POINT, Stmt, WRITE_POINT, Why,
 };
+use pct_threads::{FrameRef, Frames};
 
 /// The stop of a running thread at this statement of its top frame: whether its process may execute the statement is tested first, then
 /// whether it may be executed with asynchronous cancelability, and then the statement's own stops in their order. `None` if the
@@ -30,7 +32,7 @@ use pct_model::{
 pub(crate) fn stop_at(context: &Context, at: &At) -> Option<Why>
     requires { IsWhole context.now }
     ensures { (shared : SharedState) (t : Thread) (environment : Environment) → IsContext shared t environment context.now
-        → result ≡ stop_at (body_of context.now.program.now.script at.now.frame.now.func) shared t environment at.now.frame.now at.now.statement.now }
+        → result ≡ stop_at (body_of context.now.program.now.script at.now.frame.func) shared t environment at.now.frame at.now.statement.now }
 {
     if is_forbidden_in_child(context, at) {
         Some(Why::ForkChildCall)
@@ -48,17 +50,17 @@ pub(crate) fn stop_at(context: &Context, at: &At) -> Option<Why>
 fn own_stop(context: &Context, at: &At) -> Option<Why>
     requires { IsWhole context.now }
     ensures { (shared : SharedState) (t : Thread) (environment : Environment) → IsContext shared t environment context.now
-        → result ≡ first_stop (stops_of (body_of context.now.program.now.script at.now.frame.now.func) shared t environment at.now.frame.now at.now.statement.now) }
+        → result ≡ first_stop (stops_of (body_of context.now.program.now.script at.now.frame.func) shared t environment at.now.frame at.now.statement.now) }
 {
     let position = &context.position;
     let globals = context.globals();
-    let frame = at.frame;
+    let frame = &at.frame;
     match at.statement {
         Stmt::Join { id, .. } => stop_of_join(context, value_of(globals, frame, *id)),
         Stmt::Detach(id) => stop_of_detach(context, value_of(globals, frame, *id)),
         Stmt::CancelThread(id) => stop_of_request(context, value_of(globals, frame, *id)),
         Stmt::SetState { enable, .. } => first_stop(&[(
-            *enable && is_in_handler(context.frames()),
+            *enable && is_in_handler(&context.frames()),
             Why::EnableInHandler,
         )]),
         Stmt::KeyDelete(key) | Stmt::SetSpecific(key, _) | Stmt::GetSpecific(_, key) => {
@@ -81,11 +83,11 @@ fn own_stop(context: &Context, at: &At) -> Option<Why>
             Why::ExitInEnding,
         )]),
         Stmt::Return(_) => first_stop(&[(
-            exits_twice(frame.kind, context.exit_value()),
+            exits_twice(frame.kind(), context.exit_value()),
             Why::ExitTwice,
         )]),
         Stmt::End => first_stop(&[(
-            exits_twice(frame.kind, context.exit_value())
+            exits_twice(frame.kind(), context.exit_value())
                 && closes_function(context.program, frame),
             Why::ExitTwice,
         )]),
@@ -198,11 +200,26 @@ fn is_cleanup_full(handlers: u32) -> bool
     handlers as usize >= MAX_HANDLERS
 }
 
-// Whether a thread with these frames, the oldest first, is in a cleanup handler or in a destructor.
-fn is_in_handler(frames: &[Frame]) -> bool
-    ensures { (newest_first : List FrameRecord) → reverse frames.now ≡ newest_first → result ≡ is_in_handler newest_first }
+// Whether a thread with these frames is in a cleanup handler or in a destructor.
+fn is_in_handler(frames: &Frames) -> bool
+    ensures { result ≡ is_in_handler frames.now }
 {
-    frames.iter().any(|frame| is_handler_kind(frame.kind))
+    for index in 0..frames.len() {
+        if is_handler_at(frames, index) {
+            return true;
+        }
+    }
+    false
+}
+
+// Whether the frame at an index, if there is one, is that of a cleanup handler or of a destructor.
+fn is_handler_at(frames: &Frames, index: usize) -> bool
+    ensures { result ≡ option_map_or (λ frame. is_handler_kind frame.kind) (slice_get frames.now index) false }
+{
+    match frames.get(index) {
+        None => false,
+        Some(frame) => is_handler_kind(frame.kind()),
+    }
 }
 
 // Whether a frame of this kind is that of a cleanup handler or of a destructor.
@@ -259,10 +276,10 @@ fn exits_twice(kind: FrameKind, exit_value: Option<u32>) -> bool
 }
 
 // Whether an `end` at the frame's program counter closes no block, so that it closes the function.
-fn closes_function(program: &Program, frame: &Frame) -> bool
+fn closes_function(program: &Program, frame: &FrameRef) -> bool
     ensures { result ≡ closes_function (body_of program.now.script frame.now.func) frame.now.pc }
 {
-    program.jumps.open_of(frame.func, frame.pc).is_none()
+    program.jumps.open_of(frame.func(), frame.pc()).is_none()
 }
 
 // ---- the child of a process with several threads
@@ -272,7 +289,7 @@ fn closes_function(program: &Program, frame: &Frame) -> bool
 #[inline(always)]
 pub(crate) fn is_forbidden_in_child(context: &Context, at: &At) -> bool
     ensures { (shared : SharedState) → context.now.process.now.shared ≡ shared
-        → result ≡ is_forbidden_in_child (body_of context.now.program.now.script at.now.frame.now.func) shared at.now.frame.now at.now.statement.now }
+        → result ≡ is_forbidden_in_child (body_of context.now.program.now.script at.now.frame.func) shared at.now.frame at.now.statement.now }
 {
     context.is_restricted() && is_forbidden_if_restricted(context.program, at)
 }
@@ -280,14 +297,14 @@ pub(crate) fn is_forbidden_in_child(context: &Context, at: &At) -> bool
 // The same for a process that is such a child. What a fork handler executes is allowed.
 #[inline(never)]
 fn is_forbidden_if_restricted(program: &Program, at: &At) -> bool
-    ensures { let frame = at.now.frame.now in result ≡ (not (is_fork_kind frame.kind) && not (is_allowed_in_child (body_of program.now.script frame.func) frame at.now.statement.now)) }
+    ensures { let frame = at.now.frame in result ≡ (not (is_fork_kind frame.kind) && not (is_allowed_in_child (body_of program.now.script frame.func) frame at.now.statement.now)) }
 {
-    !is_fork_kind(at.frame.kind) && !is_allowed_in_child(program, at)
+    !is_fork_kind(at.frame.kind()) && !is_allowed_in_child(program, at)
 }
 
 // Whether a frame's statement is allowed in the child of a process with several threads.
 fn is_allowed_in_child(program: &Program, at: &At) -> bool
-    ensures { result ≡ is_allowed_in_child (body_of program.now.script at.now.frame.now.func) at.now.frame.now at.now.statement.now }
+    ensures { result ≡ is_allowed_in_child (body_of program.now.script at.now.frame.func) at.now.frame at.now.statement.now }
 {
     match at.statement {
         Stmt::Emit(_)
@@ -299,8 +316,8 @@ fn is_allowed_in_child(program: &Program, at: &At) -> bool
         | Stmt::While(_)
         | Stmt::Do(_, _)
         | Stmt::ProcExitNow(_) => true,
-        Stmt::End => is_inner_kind(at.frame.kind) || !closes_function(program, at.frame),
-        Stmt::Return(_) => is_inner_kind(at.frame.kind),
+        Stmt::End => is_inner_kind(at.frame.kind()) || !closes_function(program, &at.frame),
+        Stmt::Return(_) => is_inner_kind(at.frame.kind()),
         Stmt::PointCall(index) => is_safe_point(*index),
         _ => false,
     }

@@ -110,10 +110,10 @@ fn joins_with(context: &Context, id: u32, value: u32) -> Transition
 #[tactic(auto, using(crate::proofs::Bodies::pc_within))]
 fn joins_in(context: &Context, at: &At, id: u32, value: u32) -> Transition
     requires { IsAt context.now.program.now.script at.now }
-    ensures { result ≡ joins_at (Some value) id (StatementIn at.now.frame.now at.now.statement.now) }
+    ensures { result ≡ joins_at (Some value) id (StatementIn at.now.frame at.now.statement.now) }
 {
     match at.statement {
-        Stmt::Join { value: dest, .. } => ends_join(next_pc(at.frame), *dest, id, value),
+        Stmt::Join { value: dest, .. } => ends_join(next_pc(&at.frame), *dest, id, value),
         _ => no_change(),
     }
 }

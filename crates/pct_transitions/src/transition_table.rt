@@ -113,8 +113,8 @@ fn stops_or_runs(context: &Context, at: &At, choice: Alt, transition: &mut Trans
     requires whole { IsWhole context.now }
     requires at { IsAt context.now.program.now.script at.now }
     ensures { (shared : SharedState) (t : Thread) (environment : Environment) → IsContext shared t environment context.now
-        → let body = body_of context.now.program.now.script at.now.frame.now.func in
-        transition.new ≡ stops_or (stop_at body shared t environment at.now.frame.now at.now.statement.now) (runs context.now.program.now.config.passes body shared t environment choice at.now.frame.now at.now.statement.now) }
+        → let body = body_of context.now.program.now.script at.now.frame.func in
+        transition.new ≡ stops_or (stop_at body shared t environment at.now.frame at.now.statement.now) (runs context.now.program.now.config.passes body shared t environment choice at.now.frame at.now.statement.now) }
 {
     match stop_at(context, at) {
         Some(why) => *transition = stops(why),
@@ -128,12 +128,12 @@ fn runs(context: &Context, at: &At, choice: Alt, transition: &mut Transition)
     requires whole { IsWhole context.now }
     requires at { IsAt context.now.program.now.script at.now }
     ensures { (shared : SharedState) (t : Thread) (environment : Environment) → IsContext shared t environment context.now
-        → transition.new ≡ runs context.now.program.now.config.passes (body_of context.now.program.now.script at.now.frame.now.func) shared t environment choice at.now.frame.now at.now.statement.now }
+        → transition.new ≡ runs context.now.program.now.config.passes (body_of context.now.program.now.script at.now.frame.func) shared t environment choice at.now.frame at.now.statement.now }
 {
     let program = context.program;
     let globals = context.globals();
     let position = &context.position;
-    let frame = at.frame;
+    let frame = &at.frame;
     match at.statement {
         Stmt::Emit(operand) => {
             *transition = emits(next_pc(frame), value_of(globals, frame, *operand));
@@ -162,7 +162,7 @@ fn runs(context: &Context, at: &At, choice: Alt, transition: &mut Transition)
         }
         Stmt::Return(operand) => returns_by(
             position.thread,
-            frame.kind,
+            frame.kind(),
             value_of(globals, frame, *operand),
             transition,
         ),

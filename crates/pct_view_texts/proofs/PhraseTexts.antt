@@ -1,8 +1,8 @@
 -- Phrases that are collected one after the other, each after a comma.
-use Rattle.pct_names.proofs.Names.{◌+◌, ◌++◌, ◌-◌, ◌<◌, [], ap, arith, between_to_end, Bool, codes, decimal, drop, flat_map, flat_map-map}
-use Rattle.pct_names.proofs.Names.{ForkHandlers, inl, inr, join_with_byte, KeyPlace, KeyValues, length, List, map, map-range_with_len_more}
-use Rattle.pct_names.proofs.Names.{MAX_KEYS, OnOk, Option, range_with_len, refl, Result, Script, slice_get, Some, sym, take, zip, ℕ, ◌∙◌}
-use Rattle.pct_names.proofs.Names.{◌∷◌, ◌≡◌, ◌≤◌, ◌⊎◌}
+use Rattle.pct_names.proofs.Names.{◌+◌, ◌++◌, ◌-◌, ◌<◌, [], add-one, ap, arith, between_to_end, Bool, codes, decimal, drop, flat_map}
+use Rattle.pct_names.proofs.Names.{flat_map-map, ForkHandlers, Frame, inl, inr, join_with_byte, KeyPlace, KeyValues, length, List, map}
+use Rattle.pct_names.proofs.Names.{map-range_with_len_more, MAX_KEYS, OnOk, Option, option_map_or, range_with_len, refl, Result, Script}
+use Rattle.pct_names.proofs.Names.{slice_get, Some, suc, sym, take, zero, zip, ℕ, ◌∙◌, ◌∷◌, ◌≡◌, ◌≤◌, ◌⊎◌}
 use Rattle.std.proofs.Common.{append_assoc}
 use Rattle.std.proofs.lemmas.Grind.{flat_map-append}
 use Rattle.std.proofs.lemmas.List.{append-nil}
@@ -99,6 +99,25 @@ no_named_pairs f (x ∷ xs) (y ∷ ys) none =
     ]
 
 -- ---- frames
+
+-- the texts of the frames from an index on: that of the one there, and those of the ones after it
+frames_from : (f : Frame → List ℕ) (frames : List Frame) (i : ℕ) → flat_map f (drop i frames) ≡ option_map_or f (slice_get frames i) [] ++ flat_map f (drop (suc i) frames)
+frames_from f [] zero = refl
+frames_from f [] (suc i) = refl
+frames_from f (frame ∷ below) zero = refl
+frames_from f (frame ∷ below) (suc i) = frames_from f below i
+
+-- a text, with the frames that are left, is the same after the frame at an index was appended
+pub frame_appended : (f : Frame → List ℕ) (frames : List Frame) (i : ℕ) (before after all : List ℕ)
+    → after ≡ before ++ option_map_or f (slice_get frames i) []
+    → before ++ flat_map f (drop i frames) ≡ all
+    → after ++ flat_map f (drop (i + 1) frames) ≡ all
+frame_appended f frames i before after all appended whole =
+    ap (λ (n : ℕ). after ++ flat_map f (drop n frames)) (add-one i)
+    ∙ ap (λ (text : List ℕ). text ++ flat_map f (drop (suc i) frames)) appended
+    ∙ append_assoc before (option_map_or f (slice_get frames i) []) (flat_map f (drop (suc i) frames))
+    ∙ ap (λ (text : List ℕ). before ++ text) (sym (frames_from f frames i))
+    ∙ whole
 
 -- a first word, and pairs of a name and a value
 pub named_values : (first : List ℕ) (vs : List (List ℕ × ℕ)) → first ++ flat_map (λ v. 32 ∷ phrase_text (value_words v)) vs ≡ phrase_text (first ∷ flat_map value_words vs)

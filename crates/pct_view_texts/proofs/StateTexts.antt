@@ -1,8 +1,8 @@
 -- The lines of processes and of their threads, with their values.
 use Rattle.pct_names.proofs.Names.{◌+◌, ◌++◌, ◌<◌, [], ap, arith, Bool, cond, Config, decimal, either, false, filter, filter-append}
 use Rattle.pct_names.proofs.Names.{flat_map, get_or, is_some, KeyPlace, length, line_text, List, map, None, none-some, OnOk, option_map_or}
-use Rattle.pct_names.proofs.Names.{refl, Result, reverse, Script, SharedState, slice_get, Some, sym, take, take_all, take_more, Thread}
-use Rattle.pct_names.proofs.Names.{thread_text, true, Verdict, verdict_line, verdict_of, World, ℕ, ◌∙◌, ◌∷◌, ◌≡◌, ◌≤◌}
+use Rattle.pct_names.proofs.Names.{refl, Result, Script, SharedState, slice_get, Some, sym, take, take_all, take_more, Thread, thread_text}
+use Rattle.pct_names.proofs.Names.{true, Verdict, verdict_line, verdict_of, World, ℕ, ◌∙◌, ◌∷◌, ◌≡◌, ◌≤◌}
 use Rattle.std.proofs.Common.{append-nil}
 use Rattle.std.proofs.lemmas.Grind.{flat_map-append}
 use Rattle.pct_model.specs.declared.keyword.Keyword.TheVariants as keyword
@@ -66,7 +66,7 @@ shown_line : (lines : List (List ℕ)) (script : Script) (p : ListedProcess) (pi
     → fields_text
     (word_field (thread_text pid view.tid)
     ∷ position_phrases lines script view.position
-    ∷ map (frame_phrase script) (reverse view.frames.now)
+    ∷ map (frame_phrase script) view.frames
     ∷ specific_phrases view.keys.now.places (row_at view.keys.now view.slot)
     ∷ word_field (either keyword.Detached keyword.Joinable view.detached)
     ∷ [])
@@ -80,7 +80,7 @@ pub thread_line : {E : Type 0} (r : Result (Unit {0}) E) (old t0 t1 t2 t3 t4 new
     → t0 ≡ old ++ thread_text pid view.tid
     → t1 ≡ t0 ++ (9 ∷ [])
     → t2 ≡ t1 ++ field_text (position_phrases lines script view.position)
-    → t3 ≡ t2 ++ (9 ∷ field_text (map (frame_phrase script) (reverse view.frames.now)))
+    → t3 ≡ t2 ++ (9 ∷ field_text (map (frame_phrase script) view.frames))
     → t4 ≡ t3 ++ (9 ∷ field_text (specific_phrases view.keys.now.places (row_at view.keys.now view.slot)))
     → OnOk r (new ≡ t4 ++ (9 ∷ (either keyword.Detached keyword.Joinable view.detached ++ (10 ∷ []))))
     → OnOk r (new ≡ old ++ fields_text (values_fields lines script p t))

@@ -67,7 +67,7 @@ pub(crate) fn push_thread_values(
     text.push_dotted(pid, thread.tid)?;
     text.push(b"\t")?;
     push_position(text, source, thread.position)?;
-    push_frames(alloc, text, source.script, thread.frames)?;
+    push_frames(alloc, text, source.script, &thread.frames)?;
     push_specific(alloc, text, thread.keys, thread.slot)?;
     push_detached(text, thread.detached)
 }

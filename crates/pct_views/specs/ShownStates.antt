@@ -1,5 +1,5 @@
 -- The values of a thread that has not ended, as they are shown.
-use Rattle.std.specs.Prelude.{◌≡◌, ◌<◌, List, [], ◌∷◌, length, reverse, Option, None, IsSomeAnd}
+use Rattle.std.specs.Prelude.{◌≡◌, ◌<◌, List, [], ◌∷◌, length, Option, None, IsSomeAnd}
 use Rattle.pct_keys.specs.Tables.{row_at}
 use Rattle.pct_model.specs.Keys.{KeyPlace}
 use Rattle.pct_model.specs.World.{Thread}
@@ -10,7 +10,7 @@ use Rattle.pct_views.specs.declared.thread_state.ThreadState.{ThreadState}
 pub record ShowsState (keys : List KeyPlace) (t : Thread) (view : ThreadState) : Type 0 where
   pub tid_is : view.tid ≡ t.id
   pub position_is : view.position ≡ position_of t
-  pub frames_are : reverse view.frames.now ≡ t.frames
+  pub frames_are : view.frames ≡ t.frames
   pub keys_are : view.keys.now.places ≡ keys
   pub within : view.slot < length view.keys.now.rows
   pub specific_is : row_at view.keys.now view.slot ≡ t.specific

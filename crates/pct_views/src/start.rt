@@ -12,8 +12,9 @@ ghost use Rattle.pct_view_laws.specs.TracedSteps.{position_in, start_in, start_o
 
 use crate::records::record_on;
 use pct_engine::Engine;
-use pct_model::{Entry, Frame, MAX_PROCESSES};
+use pct_model::{Entry, MAX_PROCESSES};
 use pct_process::ProcessState;
+use pct_threads::FrameRef;
 use pct_view_laws::{Position, StepStart};
 
 /// Where the step of an entry begins, in the state of a run. `None` exactly if no thread with the id of the entry holds its slot in the process
@@ -57,14 +58,14 @@ pub(crate) fn start_on(state: &ProcessState, slot: u32) -> StepStart
 }
 
 // The position of a frame, if there is one.
-fn position_in(top: Option<&Frame>) -> Option<Position>
-    ensures { result ≡ option_map position_in (option_map (λ frame. frame.now) top.entry) }
+fn position_in(top: Option<FrameRef>) -> Option<Position>
+    ensures { result ≡ option_map position_in top.entry }
 {
     match top {
         None => None,
         Some(frame) => Some(Position {
-            func: frame.func,
-            pc: frame.pc,
+            func: frame.func(),
+            pc: frame.pc(),
         }),
     }
 }

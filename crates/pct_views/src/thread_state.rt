@@ -9,19 +9,19 @@ ghost use Rattle.pct_views.specs.ShownStates.{ShowsOneState, ShowsState};
 use crate::start::start_on;
 use crate::thread_view::unended_on;
 use pct_keys::Keys;
-use pct_model::Frame;
 use pct_process::ProcessState;
+use pct_threads::Frames;
 use pct_view_laws::Position;
 
 /// The values of a thread that has not ended, as they are shown.
-#[derive(Clone, Copy)]
+#[derive(Drop)]
 pub struct ThreadState<'a> {
     /// Its id.
     pub tid: u32,
     /// The position of its top frame, if it has frames.
     pub position: Option<Position>,
-    /// Its frames, the oldest first.
-    pub frames: &'a [Frame],
+    /// Its frames, the newest first.
+    pub frames: Frames<'a>,
     /// The keys of its process, which have its thread-specific data on its slot.
     pub keys: &'a Keys,
     /// Its slot.

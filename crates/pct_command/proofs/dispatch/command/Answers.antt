@@ -51,6 +51,7 @@ demonstration-status (answer.Ran engine) is = absurd is
 demonstration-status (answer.Checked script) is = absurd is
 demonstration-status answer.Points is = absurd is
 demonstration-status (answer.Demonstrated number engine) is = refl
+demonstration-status (answer.Sampled seeds tally) is = absurd is
 
 pub returns-in-Ok-write_answer-clause-demo : goal.returns-in-Ok-write_answer-clause-demo
 returns-in-Ok-write_answer-clause-demo g c = λ asked.

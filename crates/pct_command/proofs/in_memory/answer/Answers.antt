@@ -1,8 +1,8 @@
 use Rattle.pct_names.proofs.Names.{map, string_bytes}
-use Rattle.pct_command.proofs.CompleteOutcomes.{not_refused}
+use Rattle.pct_command.proofs.CompleteOutcomes.{valid_below_five}
 use Rattle.pct_command.proofs.in_memory.answer.Goals as goal
 
 pub returns-in-Ok-clause-complete : goal.returns-in-Ok-clause-complete
 returns-in-Ok-clause-complete g c = λ accepted valid.
     let given = c.in_ok-answer.ensures in
-    rw c.status.ensures.status (not_refused (map string_bytes c.args.words.now) c.args.input.now given.schedule _ _ accepted valid given.is_outcome)
+    rw c.status.ensures.status (valid_below_five (map string_bytes c.args.words.now) c.args.input.now given.schedule _ _ accepted valid given.is_outcome)

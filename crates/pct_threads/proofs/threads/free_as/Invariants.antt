@@ -1,10 +1,12 @@
-use Rattle.pct_names.proofs.Names.{length, map, MAX_SLOTS, take, vec_capacity, ◌≡◌, ◌≤◌}
-use Rattle.pct_threads.specs.Slots.{freed}
+use Rattle.pct_names.proofs.Names.{false, length, MAX_SLOTS, vec_capacity, ℕ, ◌<◌, ◌≡◌, ◌≤◌}
+use Rattle.pct_threads.specs.Rows.{row_at}
 use Rattle.pct_threads.proofs.threads.free_as.Given as goal
 
 abbrev pub invariant-loop-slot : goal.invariant-loop-slot
 invariant-loop-slot l = record {
-  long : length l.rows.items ≡ length l.other;
-  done : take l.slot l.rows.items ≡ map freed (take l.slot l.other);
+  long : length l.rows.items ≡ length l.other.items;
+  made : (i : ℕ) → i < l.slot → (row_at l.rows.items i).made ≡ (row_at l.other.items i).made;
+  free : (i : ℕ) → i < l.slot → (row_at l.rows.items i).occupied ≡ false;
+  deep : (i : ℕ) → i < l.slot → (row_at l.rows.items i).depth ≤ 17;
   room : MAX_SLOTS ≤ vec_capacity l.rows;
 }

@@ -31,7 +31,7 @@ returns-in-Some-clause-when g c = λ t at.
     let cancel = c.record_of-thread.result.now.cancel in
     let now = c.in-Some.at in
     c.running_when.ensures
-    ∙ ap (λ (d : ProcessData). running_when d.shared.restricted cancel.state cancel.mode now.frame.now now.statement.now) c.process.view_is
+    ∙ ap (λ (d : ProcessData). running_when d.shared.restricted cancel.state cancel.mode now.frame now.statement.now) c.process.view_is
     ∙ by_next _ _ _ _ t (c.record_of-thread.ensures.record t at) _ status.Running c.in-Running.is
     (ap next_at (sym c.in-Some.is) ∙ c.next_on.ensures t at)
 

@@ -16,4 +16,4 @@ returns c =
     let values : List ℕ = flat_map (λ v. 32 ∷ phrase_text (value_words v)) locals in
     as_text _ _ _ (codes ", " ++ (name ++ values)) _ (ap (λ (text : List ℕ). codes ", " ++ text) (named_values name locals))
     (then_text _ _ _ _ (codes ", ") (name ++ values) c.in_ok-push.ensures
-    (then_text _ _ _ _ name values (c.in_ok-push_field.ensures ∙ ap (λ (word : List ℕ). text_in c.push.new.self ++ word) c.func.ensures) c.push_locals.ensures))
+    (then_text _ _ _ _ name values (c.in_ok-push_field.ensures ∙ ap (λ (word : List ℕ). text_in c.push.new.self ++ word) (c.func-name.ensures ∙ ap (func_name script) c.func.ensures)) c.push_locals.ensures))

@@ -1,37 +1,46 @@
-use Rattle.std.proofs.Common.{◌≡◌, ℕ, List, Option, Some, None, length, set, replicate, sym, ap, ◌∙◌, subst, arith}
-use Rattle.std.proofs.lemmas.List.{length-replicate, get_or-replicate}
+use Rattle.std.proofs.Common.{◌≡◌, ℕ, List, Option, Some, None, length, replicate, sym, ap, ◌∙◌, subst, arith}
+use Rattle.std.proofs.lemmas.List.{length-replicate}
 use Rattle.pct_stack.specs.Cells.{somes, AreFilled}
+use Rattle.pct_stack.specs.Rows.{set_from}
 use Rattle.pct_stack.proofs.CellLemmas.{somes-replicate, AreFilled-replicate}
-use Rattle.pct_stack.proofs.RowLemmas.{written-more, written-all}
+use Rattle.pct_stack.proofs.RowLemmas.{length-set_from, set_from-then, set_from-all}
 use Rattle.pct_stack.proofs.words.Words.new.Goals as goal
 
-pub loop-index-preserved : goal.loop-index-preserved
-loop-index-preserved c =
-    let n : ℕ = c.args.count in
-    let zeros : List (Option ℕ) = replicate n (Some 0) in
-    let empty : List (Option ℕ) = replicate n None in
-    let i : ℕ = c.loop-index.index in
+pub clear_cells-requires-clause-within : goal.clear_cells-requires-clause-within
+clear_cells-requires-clause-within c =
+    let empty : List (Option ℕ) = replicate c.args.count None in
+    let long = ap length c.loop-done.invariant.values ∙ length-set_from (Some 0) 0 c.loop-done.done empty ∙ length-replicate {A = Option ℕ} c.args.count None in
+    omega (arith, long, c.piece_of-piece.ensures.few, c.loop-done-test.true)
+
+pub loop-done-preserved : goal.loop-done-preserved
+loop-done-preserved c =
+    let empty : List (Option ℕ) = replicate c.args.count None in
+    let done : ℕ = c.loop-done.done in
+    let piece : ℕ = c.piece_of-piece.result in
     record {
-      at = c.write.ensures.0 ∙ c.loop-index.invariant.at;
+      at = c.clear_cells.ensures.at ∙ c.loop-done.invariant.at;
+      within = omega (arith, c.piece_of-piece.ensures.few, c.loop-done-test.true);
       values =
-          c.write.ensures.1 ∙ ap (λ (l : List (Option ℕ)). set l i (Some 0)) c.loop-index.invariant.values
-          ∙ ap (set _ i) (sym (get_or-replicate n i (Some 0) None c.loop-index-test.true))
-          ∙ written-more i zeros empty None (omega (arith, c.loop-index-test.true, length-replicate {A = Option ℕ} n (Some 0))) (omega (arith, c.loop-index-test.true, length-replicate {A = Option ℕ} n None));
+          c.clear_cells.ensures.values
+          ∙ ap (λ (l : List (Option ℕ)). set_from (Some 0) done piece l) c.loop-done.invariant.values
+          ∙ set_from-then (Some 0) done piece empty;
     }
 
 pub invariant_of-result : goal.invariant_of-result
 invariant_of-result c =
     let n : ℕ = c.args.count in
     let made = c.in_ok-start.ensures in
-    let all : c.loop-index.cells.values ≡ replicate n (Some 0) =
-    c.loop-index.invariant.values
-    ∙ written-all c.loop-index.index (replicate n (Some 0)) (replicate n None) (omega (arith, c.loop-index-test.false, length-replicate {A = Option ℕ} n (Some 0))) (omega (arith, c.loop-index-test.false, length-replicate {A = Option ℕ} n None)) in
-    (c.loop-index.invariant.at, made.2, made.3, made.4, ap length all ∙ length-replicate n (Some 0), subst AreFilled (sym all) (AreFilled-replicate n 0))
+    let all : c.loop-done.cells.values ≡ replicate n (Some 0) =
+    c.loop-done.invariant.values
+    ∙ ap (λ k. set_from (Some 0) 0 k (replicate n None)) {x = c.loop-done.done} {y = n} (omega (arith, c.loop-done.invariant.within, c.loop-done-test.false))
+    ∙ set_from-all (Some 0) None n in
+    (c.loop-done.invariant.at, made.2, made.3, made.4, ap length all ∙ length-replicate n (Some 0), subst AreFilled (sym all) (AreFilled-replicate n 0))
 
 pub returns : goal.returns
 returns c =
     let n : ℕ = c.args.count in
-    let all : c.loop-index.cells.values ≡ replicate n (Some 0) =
-    c.loop-index.invariant.values
-    ∙ written-all c.loop-index.index (replicate n (Some 0)) (replicate n None) (omega (arith, c.loop-index-test.false, length-replicate {A = Option ℕ} n (Some 0))) (omega (arith, c.loop-index-test.false, length-replicate {A = Option ℕ} n None)) in
+    let all : c.loop-done.cells.values ≡ replicate n (Some 0) =
+    c.loop-done.invariant.values
+    ∙ ap (λ k. set_from (Some 0) 0 k (replicate n None)) {x = c.loop-done.done} {y = n} (omega (arith, c.loop-done.invariant.within, c.loop-done-test.false))
+    ∙ set_from-all (Some 0) None n in
     ap somes all ∙ somes-replicate n 0

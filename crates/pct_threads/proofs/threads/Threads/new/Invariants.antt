@@ -1,9 +1,9 @@
 use Rattle.pct_names.proofs.Names.{MAX_SLOTS, replicate, vec_capacity, ◌≡◌, ◌≤◌}
-use Rattle.pct_threads.specs.Slots.{unused}
+use Rattle.pct_threads.specs.Rows.{no_row}
 use Rattle.pct_threads.proofs.threads.Threads.new.Given as goal
 
 abbrev pub invariant-loop : goal.invariant-loop
 invariant-loop l = record {
-  made : l.rows.items ≡ replicate l.counter unused;
+  made : l.rows.items ≡ replicate l.counter no_row;
   room : MAX_SLOTS ≤ vec_capacity l.rows;
 }

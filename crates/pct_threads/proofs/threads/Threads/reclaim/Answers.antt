@@ -1,16 +1,47 @@
-use Rattle.pct_names.proofs.Names.{ap, arith, List, subst, sym, true, ◌∙◌, ◌≡◌}
-use Rattle.std.proofs.Common.{length-set}
-use Rattle.pct_set.specs.Slots.{without_slot}
-use Rattle.pct_threads.specs.Slots.{Slot, is_occupied}
-use Rattle.pct_threads.specs.Tables.{is_reclaimable_at}
-use Rattle.pct_threads.proofs.OccupiedSlots.{removed}
-use Rattle.pct_threads.proofs.TableLemmas.{within-reclaimable}
+use Rattle.pct_names.proofs.Names.{arith}
+use Rattle.pct_threads.specs.Slots.{freed}
+use Rattle.pct_threads.proofs.TableLemmas.{reclaimable}
+use Rattle.pct_threads.proofs.RowLemmas.{row_read, holds_within, is_held, step_kept, step_some, step_seen, step_removed}
 use Rattle.pct_threads.proofs.threads.Threads.reclaim.Goals as goal
+
+pub index_mut-row-requires : goal.index_mut-row-requires
+index_mut-row-requires c = omega (arith, holds_within c.self.inside.rows.items c.self.inside.stacks c.self.invariant.1 c.args.self.now c.self.view_is c.args.slot (reclaimable c.args.self.now c.args.slot c.requires), c.self.inside.rows.ok)
+
+pub free-requires : goal.free-requires
+free-requires c =
+    let rows = c.self.inside.rows.items in
+    let stacks = c.self.inside.stacks in
+    let kept = c.self.invariant.1 in
+    let slot = c.args.slot in
+    let holds = (reclaimable c.args.self.now c.args.slot c.requires) in
+    let inside = holds_within rows stacks kept c.args.self.now c.self.view_is slot holds in
+    let x = c.index_mut-row.result.now in
+    let is_x = row_read rows slot x inside c.index_mut-row.ensures.value in
+    is_held rows stacks kept c.args.self.now c.self.view_is slot holds x is_x
+
+pub remove-requires : goal.remove-requires
+remove-requires c = omega (arith, holds_within c.self.inside.rows.items c.self.inside.stacks c.self.invariant.1 c.args.self.now c.self.view_is c.args.slot (reclaimable c.args.self.now c.args.slot c.requires), c.self.invariant.1.few)
 
 pub invariant_of-self : goal.invariant_of-self
 invariant_of-self c =
     let rows = c.self.inside.rows.items in
+    let stacks = c.self.inside.stacks in
+    let kept = c.self.invariant.1 in
     let slot = c.args.slot in
-    let after = c.free.new.self in
-    let inside = within-reclaimable rows slot (subst (λ (t : List Slot). is_reclaimable_at t slot ≡ true) (sym c.self.view_is) c.requires) in
-    (omega (arith, c.self.invariant.0, length-set rows slot after), omega (arith, c.self.invariant.1, length-set rows slot after), c.remove.ensures ∙ ap (without_slot slot) c.self.invariant.2 ∙ removed rows slot after inside (ap is_occupied c.free.ensures), c.self.invariant.3)
+    let holds = (reclaimable c.args.self.now c.args.slot c.requires) in
+    let inside = holds_within rows stacks kept c.args.self.now c.self.view_is slot holds in
+    let x = c.index_mut-row.result.now in
+    let is_x = row_read rows slot x inside c.index_mut-row.ensures.value in
+    (step_some rows stacks kept slot inside x is_x c.free.new.row c.free.new.stacks freed c.free.ensures.step c.self.invariant.0, step_kept rows stacks kept slot inside x is_x c.free.new.row c.free.new.stacks freed c.free.ensures.step, step_removed rows stacks kept slot inside x is_x c.free.new.row c.free.new.stacks freed c.free.ensures.step c.self.inside.occupied c.self.invariant.2 c.remove.new.self c.free.ensures.gone c.remove.ensures, c.self.invariant.3)
+
+pub returns : goal.returns
+returns c =
+    let rows = c.self.inside.rows.items in
+    let stacks = c.self.inside.stacks in
+    let kept = c.self.invariant.1 in
+    let slot = c.args.slot in
+    let holds = (reclaimable c.args.self.now c.args.slot c.requires) in
+    let inside = holds_within rows stacks kept c.args.self.now c.self.view_is slot holds in
+    let x = c.index_mut-row.result.now in
+    let is_x = row_read rows slot x inside c.index_mut-row.ensures.value in
+    step_seen rows stacks kept slot inside x is_x c.free.new.row c.free.new.stacks freed c.free.ensures.step c.args.self.now c.self.view_is

@@ -1,0 +1,55 @@
+use Rattle.pct_names.proofs.Names.{arith}
+use Rattle.pct_threads.specs.Slots.{with_call, with_change}
+use Rattle.pct_threads.proofs.RowLemmas.{row_read, holds_within, is_held, depth_read, step_kept, step_some, step_seen, step_same}
+use Rattle.pct_threads.proofs.threads.Threads.call.Goals as goal
+
+pub index_mut-row-requires : goal.index_mut-row-requires
+index_mut-row-requires c = omega (arith, holds_within c.self.inside.rows.items c.self.inside.stacks c.self.invariant.1 c.args.self.now c.self.view_is c.args.slot c.requires.occupied, c.self.inside.rows.ok)
+
+pub call-requires-clause-held : goal.call-requires-clause-held
+call-requires-clause-held c =
+    let rows = c.self.inside.rows.items in
+    let stacks = c.self.inside.stacks in
+    let kept = c.self.invariant.1 in
+    let slot = c.args.slot in
+    let holds = c.requires.occupied in
+    let inside = holds_within rows stacks kept c.args.self.now c.self.view_is slot holds in
+    let x = c.index_mut-row.result.now in
+    let is_x = row_read rows slot x inside c.index_mut-row.ensures.value in
+    is_held rows stacks kept c.args.self.now c.self.view_is slot holds x is_x
+
+pub call-requires-clause-room : goal.call-requires-clause-room
+call-requires-clause-room c =
+    let rows = c.self.inside.rows.items in
+    let stacks = c.self.inside.stacks in
+    let kept = c.self.invariant.1 in
+    let slot = c.args.slot in
+    let holds = c.requires.occupied in
+    let inside = holds_within rows stacks kept c.args.self.now c.self.view_is slot holds in
+    let x = c.index_mut-row.result.now in
+    let is_x = row_read rows slot x inside c.index_mut-row.ensures.value in
+    omega (arith, c.requires.room, depth_read rows stacks c.args.self.now c.self.view_is slot x is_x holds)
+
+pub invariant_of-self : goal.invariant_of-self
+invariant_of-self c =
+    let rows = c.self.inside.rows.items in
+    let stacks = c.self.inside.stacks in
+    let kept = c.self.invariant.1 in
+    let slot = c.args.slot in
+    let holds = c.requires.occupied in
+    let inside = holds_within rows stacks kept c.args.self.now c.self.view_is slot holds in
+    let x = c.index_mut-row.result.now in
+    let is_x = row_read rows slot x inside c.index_mut-row.ensures.value in
+    (step_some rows stacks kept slot inside x is_x c.call.new.row c.call.new.stacks (with_change (with_call c.args.func c.args.arg c.args.kind)) c.call.ensures.step c.self.invariant.0, step_kept rows stacks kept slot inside x is_x c.call.new.row c.call.new.stacks (with_change (with_call c.args.func c.args.arg c.args.kind)) c.call.ensures.step, step_same rows stacks kept slot inside x is_x c.call.new.row c.call.new.stacks (with_change (with_call c.args.func c.args.arg c.args.kind)) c.call.ensures.step c.self.inside.occupied c.self.invariant.2 c.call.ensures.same, c.self.invariant.3)
+
+pub returns : goal.returns
+returns c =
+    let rows = c.self.inside.rows.items in
+    let stacks = c.self.inside.stacks in
+    let kept = c.self.invariant.1 in
+    let slot = c.args.slot in
+    let holds = c.requires.occupied in
+    let inside = holds_within rows stacks kept c.args.self.now c.self.view_is slot holds in
+    let x = c.index_mut-row.result.now in
+    let is_x = row_read rows slot x inside c.index_mut-row.ensures.value in
+    step_seen rows stacks kept slot inside x is_x c.call.new.row c.call.new.stacks (with_change (with_call c.args.func c.args.arg c.args.kind)) c.call.ensures.step c.args.self.now c.self.view_is
