@@ -7,7 +7,7 @@ A machine is the definition of a step with one line of it changed, so that it br
 a request that is dropped. In a copy of the crates up to pct_ending_laws each machine is made in turn, and `rt check` then has to
 prove the laws of it. It is refused if the check does not prove them, and if an error is in a certain file: that of the proof of
 the law, or of a part of the invariant which this law needs. Other files have errors, too, where their proofs use the line that
-was changed. A crate is checked only where those below it are proved, so in the copy the nine crates that prove the laws are one.
+was changed. A crate is checked only where those below it are proved, so in the copy the ten crates that prove the laws are one.
 The list of the cases of a transition, from which the laws are proved, repeats the transitions; where the changed line is one of a
 transition, or of a choice, its case is changed alike, so that what is refused is the law.
 
@@ -25,7 +25,7 @@ import tempfile
 ROOT = pathlib.Path(__file__).resolve().parent.parent
 BELOW = ("pct_io", "pct_model", "pct_names", "pct_laws", "pct_jumps", "pct_transition_cases")
 # The crates that prove the laws. In the copy they are the last one.
-LAWS = ("pct_thread_invariants", "pct_join_laws", "pct_once_laws", "pct_wake_laws", "pct_cancel_laws", "pct_process_laws", "pct_frame_laws", "pct_creation_laws", "pct_ending_laws")
+LAWS = ("pct_thread_invariants", "pct_join_laws", "pct_once_laws", "pct_wake_laws", "pct_cancel_laws", "pct_process_laws", "pct_frame_laws", "pct_creation_laws", "pct_stack_laws", "pct_ending_laws")
 SPECS = "crates/pct_model/specs"
 CASES = "crates/pct_transition_cases/proofs"
 SECONDS = 1800
@@ -378,6 +378,15 @@ MACHINES = (
     Machine("a_test_is_always_true", "FrameLaw", "frames/FrameCases", "ScriptStatements",
             "after_test body pc v = if nat_eq v 0 then after_block body pc else suc pc",
             "after_test body pc v = suc pc"),
+    Machine("an_end_gives_the_slot_back", "StackLaw", "KeptSlots", "ThreadSlots",
+            "was_reclaimed t = is_ended_status t.status && (t.joined || t.detached)",
+            "was_reclaimed t = is_ended_status t.status"),
+    Machine("a_detach_gives_the_slot_back", "StackLaw", "KeptSlots", "ThreadSlots",
+            "was_reclaimed t = is_ended_status t.status && (t.joined || t.detached)",
+            "was_reclaimed t = is_ended_status t.status && t.joined || t.detached"),
+    Machine("a_new_thread_takes_the_slot_of_an_ended_one", "StackLaw", "LoneHolders", "ThreadSlots",
+            "is_free slots threads s = not (list_any (λ t. is_on slots s t && holds_slot t) threads)",
+            "is_free slots threads s = not (list_any (λ t. is_on slots s t && holds_slot t && not t.ended) threads)"),
 )
 
 

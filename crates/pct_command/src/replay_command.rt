@@ -43,7 +43,7 @@ fn replay_entries(
     requires few { length entries ≤ config.budget }
     ensures { (words : List (List ℕ)) (input : List ℕ) → is_asked keyword.Replay words ≡ true → HasScript words input script → sched_of (schedule_part input) ≡ IsRead (config, entries) → Answered words input result }
 {
-    match replay(alloc, script, config, entries.as_slice()) {
+    match replay(alloc, script, config, entries) {
         Ok(engine) => Ok(Answer::Ran(engine)),
         Err(ReplayFault::NotLegal { entry_number }) => {
             Ok(Answer::Refused(Refusal::Entry { entry_number }))

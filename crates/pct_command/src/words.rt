@@ -7,12 +7,9 @@ ghost use Rattle.pct_model.specs.RunOptions.{run_options};
 ghost use Rattle.pct_model.specs.Sample.{sample_number, seed_count};
 ghost use Rattle.pct_command.specs.Words.{Asks};
 
-use pct_model::{Keyword, RunOptions};
+use pct_model::{Keyword, MAX_SEEDS, RunOptions};
 use pct_options::read_options;
 use pct_text::numeral;
-
-// The most seeds of a sample.
-const MAX_SEEDS: u32 = 10_000;
 
 /// The words are not accepted.
 #[derive(Clone, Copy, Debug, PartialEq, Eq)]

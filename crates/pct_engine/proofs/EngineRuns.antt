@@ -1,5 +1,5 @@
 -- Runs with one entry more, and what an engine represents.
-use Rattle.pct_names.proofs.Names.{◌++◌, ◌<◌, [], ap, Bool, cond, Config, Entry, Event, event_of, false, is_config, length, List, map}
+use Rattle.pct_names.proofs.Names.{drop, ◌++◌, ◌<◌, [], ap, Bool, cond, Config, Entry, Event, event_of, false, is_config, length, List, map}
 use Rattle.pct_names.proofs.Names.{map-append, None, opening, Option, option_map, refl, reverse, reverse-append, Run, run, Script, Some}
 use Rattle.pct_names.proofs.Names.{step, subst, sym, Transition, true, World, ◌∙◌, ◌∷◌, ◌≡◌}
 use Rattle.pct_engine_laws.specs.Seen.{Seen, seen, seen_after}
@@ -47,9 +47,10 @@ next_run script config history e r v left is view =
 -- ---- what an engine represents
 
 -- before the first step
-pub stands-first : (program : ProgramValue) (trace : TraceValue) (machine : Seen) (script : Script) (config : Config) → is_config config ≡ true → program ≡ record { script = script; config = config } → trace ≡ record { budget = config.budget; history = []; events = [] } → machine ≡ seen config.slots (opening script)
+pub stands-first : (program : ProgramValue) (trace : TraceValue) (machine : Seen) (script : Script) (config : Config) (planned : List Entry) → is_config config ≡ true → program ≡ record { script = script; config = config }
+    → trace ≡ record { budget = config.budget; history = []; planned = planned; events = [] } → machine ≡ seen config.slots (opening script)
     → StandsFor program trace machine
-stands-first program trace machine script config limits program_is trace_is state_is =
+stands-first program trace machine script config planned limits program_is trace_is state_is =
     subst (λ (p : ProgramValue). StandsFor p trace machine) (sym program_is)
     (subst (λ (t : TraceValue). StandsFor (record { script = script; config = config }) t machine) (sym trace_is) (record {
       after = record { world = opening script; events = [] };
@@ -61,7 +62,7 @@ stands-first program trace machine script config limits program_is trace_is stat
 
 -- after a step that was recorded
 pub stands-more : (program : ProgramValue) (trace : TraceValue) (machine : Seen) (e : Entry) (o : Transition) → length trace.history < trace.budget → StandsFor program trace machine → legal_transition program.script program.config machine e ≡ Some o
-    → StandsFor program (record trace { history = trace.history ++ e ∷ []; events = trace.events ++ map (event_of e) o.events }) (seen_after program.config.slots e.pid e.tid o machine)
+    → StandsFor program (record trace { history = trace.history ++ e ∷ []; planned = drop 1 trace.planned; events = trace.events ++ map (event_of e) o.events }) (seen_after program.config.slots e.pid e.tid o machine)
 stands-more program trace machine e o left stands legal =
     let r = stands.after in
     let limits = (run_parts program.script program.config trace.history r stands.is_run).limits in

@@ -16,6 +16,7 @@ use Rattle.pct_model.specs.World.{Process, World}
 use Rattle.pct_laws.specs.Kept.{Kept}
 use Rattle.pct_laws.specs.Laws.{Laws}
 use Rattle.pct_model.specs.Run.{Run, run, verdict_of}
+use Rattle.pct_stack_laws.specs.StackLaw.{StackLaw}
 use Rattle.pct_engine_laws.specs.Seen.{Seen, seen}
 use Rattle.pct_engine_laws.specs.RunLaws.{IsLegalWhileOpen}
 use Rattle.pct_transitions.specs.Programs.{ProgramValue}
@@ -47,6 +48,8 @@ IsRunOf engine after = run engine.script engine.config engine.history ≡ Some a
 pub record KeepsLaws (engine : EngineValue) (after : Run) : Type 0 where
   pub laws : Laws engine.script engine.config engine.history after
   pub kept : Kept engine.script engine.config after.world after.events
+  -- a stack slot is taken by one thread at a time, and is given back only when its thread has ended and was joined or is detached
+  pub stacks : StackLaw engine.script engine.config engine.history
 
 -- the history with one entry more is a run
 abbrev pub IsRunWith : EngineValue → Entry → Type 0

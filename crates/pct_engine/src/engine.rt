@@ -1,11 +1,12 @@
 //! The engine: a run of a script, step by step.
 
-ghost use Rattle.std.specs.Prelude.{◌≡◌, ◌↔◌, ◌≤◌, ◌+◌, true, [], ◌∷◌, ◌++◌, Some, IsOk, OnOk, OnErr, is_some};
+ghost use Rattle.std.specs.Prelude.{◌≡◌, ◌↔◌, ◌≤◌, ◌+◌, true, [], ◌∷◌, ◌++◌, Some, IsOk, OnOk, OnErr, drop, is_ok, is_some, if◌then◌else◌};
 ghost use Rattle.pct_model.specs.Run.{Run, run};
 ghost use Rattle.pct_model.specs.Formats.{has_timeouts};
 ghost use Rattle.pct_engine.specs.EngineStates.{StandsFor, woken_by};
 ghost use Rattle.pct_ready_sets.specs.ReadyConditions.{FollowAll};
 
+use crate::planned_run::PlannedRun;
 use crate::trace::Trace;
 use pct_io::NoMemory;
 use pct_machine::{Draw, Machine, ProcessView};
@@ -58,16 +59,26 @@ impl Engine {
         requires { IsTrue (is_config config) }
         ensures { IfOk result (λ engine. engine ≡ record { script = script; config = config; history = [] }) }
     {
-        let trace = Trace::new(alloc, config.budget)?;
-        let machine = Machine::first(alloc, &script, config.slots)?;
-        let sets = AllReadySets::new(alloc)?;
-        let program = Program::new(alloc, script, config)?;
-        Ok(Engine {
+        Ok(PlannedRun::open(alloc, script, config, Vec::new(alloc))?.into_engine())
+    }
+
+    /// The engine with these parts.
+    pub(crate) fn of_parts(
+        program: Program,
+        machine: Machine,
+        sets: AllReadySets,
+        trace: Trace,
+    ) -> Engine
+        requires stands { StandsFor program trace machine }
+        requires follow { FollowAll program.script (has_timeouts program.config.format) machine.processes sets }
+        ensures { result ≡ record { script = program.script; config = program.config; history = trace.history } }
+    {
+        Engine {
             program,
             machine,
             sets,
             trace,
-        })
+        }
     }
 
     /// Makes the step of an entry, and records the entry and its events. `NotLegal` is returned exactly if the verdict is not
@@ -198,8 +209,8 @@ impl Engine {
     }
 }
 
-// Makes the step of an entry, and records it with its events.
-fn step_with<L: Ledger>(
+/// Makes the step of an entry, and records it with its events.
+pub(crate) fn step_with<L: Ledger>(
     program: &Program,
     machine: &mut Machine,
     sets: &mut AllReadySets,
@@ -210,6 +221,7 @@ fn step_with<L: Ledger>(
     requires stands { StandsFor program.now trace.old machine.old }
     requires follow { FollowAll program.now.script (has_timeouts program.now.config.format) machine.old.processes sets.old }
     ensures made { OnOk result (trace.new.history ≡ trace.old.history ++ entry ∷ []) }
+    ensures planned { trace.new.planned ≡ (if is_ok result then drop 1 trace.old.planned else trace.old.planned) }
     ensures legal { IsOk result ↔ (is_some (run program.now.script program.now.config (trace.old.history ++ entry ∷ [])) ≡ true) }
     ensures same { OnErr result (trace.new.history ≡ trace.old.history) }
     ensures stands { StandsFor program.now trace.new machine.new }

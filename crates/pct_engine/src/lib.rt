@@ -2,6 +2,8 @@
 #![tactic(auto)]
 
 mod engine;
+mod planned_run;
 mod trace;
 
 pub use engine::{Engine, NotLegal};
+pub use planned_run::PlannedRun;

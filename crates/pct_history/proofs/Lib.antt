@@ -1,1 +1,2 @@
 pub mod IllegalEntries
+pub mod PlannedSteps

@@ -23,7 +23,7 @@ pub(crate) fn continue_script(
 {
     match read_prefix(alloc, prefix, format_of(&script)) {
         Ok((config, entries)) => {
-            match follow(alloc, script, config, entries.as_slice()) {
+            match follow(alloc, script, config, entries) {
                 Ok((mut engine, illegal)) => {
                     continue_seeded(&mut engine, seed);
                     Ok(Answer::Continued { engine, illegal })

@@ -58,7 +58,7 @@ pub(crate) fn show_script(
     match read_prefix(alloc, parts.prefix, format_of(&script)) {
         Ok((config, entries)) => match view {
             View::Choices | View::States => {
-                let (engine, illegal) = follow(alloc, script, config, entries.as_slice())?;
+                let (engine, illegal) = follow(alloc, script, config, entries)?;
                 show_state(alloc, view, &lines, &engine, illegal)
             }
             View::Steps(form) => {

@@ -51,6 +51,7 @@ pub use limits::MAX_KEYS;
 pub use limits::MAX_LOCALS;
 pub use limits::MAX_PASSES;
 pub use limits::MAX_PROCESSES;
+pub use limits::MAX_SEEDS;
 pub use limits::MAX_SLOTS;
 pub use limits::MAX_STATEMENTS;
 pub use limits::MAX_WORKER;

@@ -7,3 +7,4 @@ mod KnownSlots
 mod FreshGroups
 mod MovedGroups
 mod TouchedSlots
+mod UnknownSets

@@ -1,6 +1,7 @@
 //! The sets of slots of all processes of a machine.
 
-ghost use Rattle.std.specs.Prelude.{◌≡◌};
+ghost use Rattle.std.specs.Prelude.{◌≡◌, ◌<◌, ℕ, option_map, slice_get};
+ghost use Rattle.pct_ready_sets.specs.ReadyGroups.{with_stale};
 
 use crate::ready_sets::ReadySets;
 use crate::refreshing::refresh;
@@ -8,6 +9,7 @@ use crate::touched_slots::touched_slots;
 use pct_io::NoMemory;
 use pct_model::{MAX_PROCESSES, Transition};
 use pct_process::ProcessState;
+use pct_set::SlotSet;
 use pct_transitions::Program;
 use std::alloc::Global;
 use std::marker::Model;
@@ -16,15 +18,20 @@ use std::marker::Model;
 #[derive(Drop)]
 pub struct AllReadySets {
     sets: Vec<ReadySets>,
+    // Whether there was a look at any slot.
+    looked: bool,
 }
 
 impl Model for AllReadySets {
-    ghost use Rattle.std.specs.Prelude.{List};
-    ghost use Rattle.pct_ready_sets.specs.ReadyGroups.{ReadyValue};
+    ghost use Rattle.std.specs.Prelude.{◌≡◌, List, false, replicate};
+    ghost use Rattle.pct_model.specs.declared.limits.TheConstants.{MAX_PROCESSES};
+    ghost use Rattle.pct_ready_sets.specs.ReadyGroups.{ReadyValue, unknown};
 
     ghost Value = { List ReadyValue };
 
     ghost view = { λ all. all.sets.items };
+
+    ghost invariant = { λ all. all.looked ≡ false → all.sets.items ≡ replicate MAX_PROCESSES unknown };
 }
 
 impl AllReadySets {
@@ -44,7 +51,10 @@ impl AllReadySets {
         for _ in 0..MAX_PROCESSES {
             sets.push(ReadySets::new(alloc)?)?;
         }
-        Ok(AllReadySets { sets })
+        Ok(AllReadySets {
+            sets,
+            looked: false,
+        })
     }
 
     /// The sets, by place.
@@ -61,6 +71,7 @@ impl AllReadySets {
         ensures fresh { IsFreshAt place self.new }
         ensures others { (i : ℕ) → i ≢ place → slice_get self.new i ≡ slice_get self.old i }
     {
+        self.looked = true;
         if place < self.sets.len() {
             refresh(program, process, &mut self.sets[place]);
         }
@@ -73,20 +84,31 @@ impl AllReadySets {
         requires few { slots ≤ MAX_SLOTS }
         ensures { (i : ℕ) → i < live → slice_get self.new i ≡ option_map (with_stale (slots_where (touches slots tid transition.now))) (slice_get self.old i) }
     {
-        let touched = touched_slots(slots, tid, transition);
-        for place in 0..live {
-            if place < self.sets.len() {
-                self.sets[place].mark(&touched);
-            }
+        if !self.looked {
+            // Each slot is stale.
+            return;
         }
+        mark_places(&mut self.sets, live, &touched_slots(slots, tid, transition));
     }
 
     /// Each slot becomes stale: the processes move to other places.
     pub fn mark_all(&mut self)
         ensures { self.new ≡ map all_stale self.old }
     {
+        self.looked = true;
         for sets in self.sets.iter_mut() {
             sets.mark_all();
+        }
+    }
+}
+
+// These slots become stale on the first `live` places.
+fn mark_places(sets: &mut Vec<ReadySets>, live: usize, touched: &SlotSet)
+    ensures { (i : ℕ) → i < live → slice_get sets.new.items i ≡ option_map (with_stale touched.now) (slice_get sets.old.items i) }
+{
+    for place in 0..live {
+        if place < sets.len() {
+            sets[place].mark(touched);
         }
     }
 }

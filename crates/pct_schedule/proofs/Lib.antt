@@ -4,6 +4,7 @@ pub mod LineByLine
 pub mod ByEntries
 pub mod ByHeader
 pub mod LineLoops
+pub mod DigitsFirst
 pub mod GoLines
 pub mod FirstEntries
 pub mod Markers

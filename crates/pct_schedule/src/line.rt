@@ -6,12 +6,12 @@ ghost use Rattle.pct_model.specs.Keywords.{keyword_text};
 ghost use Rattle.pct_model.specs.Lines.{words_of, number_of};
 ghost use Rattle.pct_model.specs.Run.{is_config};
 ghost use Rattle.pct_model.specs.Schedule.{begins, format_with, config_of, header_of, numbered_choice, choice_of, entry_of, entry_in, is_number, is_end};
-ghost use Rattle.pct_schedule.specs.FirstEntry.{IsFirstEntry};
+ghost use Rattle.pct_schedule.specs.FirstEntry.{AreFirstNumbers, IsFirstEntry};
 
 use pct_model::{
     Alt, Config, Entry, Format, Keyword, MAX_BUDGET, MAX_PASSES, MAX_SLOTS, MAX_WORKER, MIN_PASSES,
 };
-use pct_text::{number_of, split_number, split_once};
+use pct_text::{is_digit, number_of, split_number, split_once};
 
 /// Whether a line begins with the keyword and a space.
 #[inline(always)]
@@ -151,8 +151,7 @@ pub fn entry_of(line: &[u8]) -> Option<Entry>
 pub fn split_go(text: &[u8]) -> Option<(Entry, &[u8])>
     ensures { IfSome result (λ parts. IsFirstEntry text.now parts.0 parts.1.now) }
 {
-    let (worker, words) = split_number(text)?;
-    let (pid, words) = split_number(words)?;
+    let (worker, pid, words) = split_two(text)?;
     let (tid, words) = split_number(words)?;
     let after = after_go(words)?;
     if worker <= MAX_WORKER {
@@ -165,6 +164,33 @@ pub fn split_go(text: &[u8]) -> Option<(Entry, &[u8])>
         Some((entry, after))
     } else {
         None
+    }
+}
+
+// The two numbers before the first two spaces, and the text after them. Nearly always both have one digit.
+#[inline(always)]
+fn split_two(text: &[u8]) -> Option<(u32, u32, &[u8])>
+    ensures { IfSome result (λ parts. AreFirstNumbers text.now parts.0 parts.1 parts.2.now) }
+{
+    if let Some((first, second, after)) = two_bytes(text)
+        && is_digit(first)
+        && is_digit(second)
+    {
+        return Some((u32::from(first - b'0'), u32::from(second - b'0'), after));
+    }
+    let (first, words) = split_number(text)?;
+    let (second, words) = split_number(words)?;
+    Some((first, second, words))
+}
+
+// Two bytes, each with a space after it, and the text after them.
+#[inline(always)]
+fn two_bytes(text: &[u8]) -> Option<(u8, u8, &[u8])>
+    ensures { IfSome result (λ parts. text.now ≡ parts.0 ∷ 32 ∷ parts.1 ∷ 32 ∷ parts.2.now) }
+{
+    match text {
+        [first, b' ', second, b' ', after @ ..] => Some((*first, *second, after)),
+        _ => None,
     }
 }
 

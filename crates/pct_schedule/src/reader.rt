@@ -1,7 +1,7 @@
 //! Reading a schedule, or a prefix of one: the header is found, then each line after it is parsed once, and its entry is
 //! stored.
 
-ghost use Rattle.std.specs.Prelude.{◌≡◌, ◌+◌, ◌-◌, ◌<◌, ◌≤◌, ◌^◌, true, length, map, Err, IfSome, IfOk, []};
+ghost use Rattle.std.specs.Prelude.{◌≡◌, ◌+◌, ◌-◌, ◌<◌, ◌≤◌, ◌^◌, ◌∷◌, ◌++◌, true, length, map, Err, IfSome, IfOk, OnOk, OnErr, []};
 ghost use Rattle.std.specs.Option.{option_map};
 ghost use Rattle.pct_model.specs.declared.limits.TheConstants.{MAX_INPUT};
 ghost use Rattle.pct_model.specs.Lines.{lines_of, strip_cr};
@@ -17,7 +17,7 @@ use crate::fault::ScheduleFault;
 use crate::line::{begins_with, entry_in, header_of, is_end, split_go};
 use pct_model::{Config, Entry, Format, Keyword, ScheduleWhy, Sequence};
 use pct_text::{first_line, strip_cr};
-use std::alloc::Global;
+use std::alloc::{AllocError, Global};
 
 /// The entries of a schedule, in order. A contract sees the list.
 pub type Entries = Sequence<Entry>;
@@ -97,6 +97,19 @@ fn end_at(number: u32, count: usize, line: &[u8], after: &[u8]) -> Result<(), Sc
     }
 }
 
+// Adds an entry to a list. `AllocError` comes only where it has no room, and then the list stays.
+#[inline(always)]
+fn add_entry(entries: &mut Vec<Entry>, entry: Entry) -> Result<(), AllocError>
+    ensures items { OnOk result (entries.new.items ≡ entries.old.items ++ entry ∷ []) }
+    ensures same { OnErr result (entries.new.items ≡ entries.old.items) }
+{
+    if entries.len() == entries.capacity() {
+        entries.reserve(1)?;
+    }
+    entries.push_reserved(entry);
+    Ok(())
+}
+
 // The entries down to the line `end N` or, where it is optional, to the end of the text.
 #[inline(never)]
 fn read_entries(
@@ -117,7 +130,7 @@ fn read_entries(
         if let Some((entry, after)) = split_go(rest)
             && entries.len() < config.budget as usize
         {
-            entries.push(entry)?;
+            add_entry(&mut entries, entry)?;
             number += 1;
             rest = after;
             continue;
@@ -129,7 +142,7 @@ fn read_entries(
             return Ok(Sequence::of(entries));
         }
         let entry = entry_at(number, config, entries.len(), line)?;
-        entries.push(entry)?;
+        add_entry(&mut entries, entry)?;
         number += 1;
         rest = after;
     }

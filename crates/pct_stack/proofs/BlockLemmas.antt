@@ -42,7 +42,7 @@ slots_of-change grid grid' free free' slot here same is others =
 -- ---- a block with no free slot
 
 module _ (grid : Rows) (head : ℕ) (past : length grid.rows ≤ head) where
-  none_in : free_of grid head ≡ []
+  pub none_in : free_of grid head ≡ []
   none_in = follow-none (length grid.rows) (λ s. word_at grid s 0) (λ s. word_at grid s 1) (length grid.rows) head past
 
   pub full_at : (slot : ℕ) → slot < length grid.rows → slot_at (stacks_of grid head) slot ≡ Some (row_at grid slot)
@@ -163,12 +163,14 @@ module _ (grid : Rows) (head : ℕ) (block : IsBlock grid head) where
 
   -- ---- a change
 
-  module _ (grid' : Rows) (head' : ℕ) (free' : List ℕ) (same : length grid'.rows ≡ n) (width : grid'.width ≡ grid.width) (even : AreEven grid') (chain : IsChain grid' head' free') where
+  module _ (grid' : Rows) (head' : ℕ) (free' : List ℕ) (same : length grid'.rows ≡ n) (room : grid'.room ≡ grid.room) (width : grid'.width ≡ grid.width) (even : AreEven grid') (chain : IsChain grid' head' free') where
     free_after : free_of grid' head' ≡ free'
     free_after = follow-linked (length grid'.rows) (λ s. word_at grid' s 0) (λ s. word_at grid' s 1) NO_SLOT head' free' chain
 
     block_after : IsBlock grid' head'
     block_after = record {
+      some = omega (arith, room, block.some);
+      few = omega (arith, room, block.few);
       count = omega (arith, same, block.count);
       width = omega (arith, width, block.width);
       even = even;
@@ -195,11 +197,11 @@ module _ (grid : Rows) (head : ℕ) (block : IsBlock grid head) where
         (ap (λ (r : List ℕ). get_or r 0 0) row, ap (λ (r : List ℕ). get_or r 1 0) row)))
 
     pub rewritten-block : IsBlock rewritten head
-    rewritten-block = block_after rewritten head free (length-with_row grid slot words) refl (even-with_row grid slot words block.even long) rewritten-chain
+    rewritten-block = block_after rewritten head free (length-with_row grid slot words) refl refl (even-with_row grid slot words block.even long) rewritten-chain
 
     pub rewritten-stacks : stacks_of rewritten head ≡ with_words slot words seen
     rewritten-stacks =
-        stacks_after rewritten head free (length-with_row grid slot words) refl (even-with_row grid slot words block.even long) rewritten-chain slot (Some words)
+        stacks_after rewritten head free (length-with_row grid slot words) refl refl (even-with_row grid slot words block.even long) rewritten-chain slot (Some words)
         (cond-false (is_in free slot) None (Some (row_at rewritten slot)) (taken_lacks slot taken) ∙ ap Some (row_at-with_same grid slot words (taken_within slot taken)))
         (λ s inside other. ap (λ (r : List ℕ). cond (is_in free s) None (Some r)) (row_at-with_other grid slot words s other))
 
@@ -215,7 +217,7 @@ module _ (grid : Rows) (head : ℕ) (block : IsBlock grid head) where
     abbrev given : Rows
     given = with_front head slot grid
 
-    given-length : length given.rows ≡ n
+    pub given-length : length given.rows ≡ n
     given-length = length-with_row g2 head (set (row_at g2 head) 1 slot) ∙ length-with_row g1 slot (set (row_at g1 slot) 1 NO_SLOT) ∙ length-with_row grid slot (set (row_at grid slot) 0 head)
 
     even1 : AreEven g1
@@ -271,11 +273,11 @@ module _ (grid : Rows) (head : ℕ) (block : IsBlock grid head) where
         (λ s has. given-nexts s (apart free s slot has lacks)) (λ s has. given-befores s (apart free s slot has lacks)))
 
     pub given-block : IsBlock given slot
-    given-block = block_after given slot (slot ∷ free) given-length refl given-even given-chain
+    given-block = block_after given slot (slot ∷ free) given-length refl refl given-even given-chain
 
     pub given-stacks : stacks_of given slot ≡ with_given slot seen
     given-stacks =
-        stacks_after given slot (slot ∷ free) given-length refl given-even given-chain slot None
+        stacks_after given slot (slot ∷ free) given-length refl refl given-even given-chain slot None
         (cond-true (is_in (slot ∷ free) slot) None (Some (row_at given slot)) (is_in-head slot free slot refl))
         (λ s within other. ap (λ b. cond b None (Some (row_at given s))) (is_in-rest slot free s other) ∙ elim (cases_Bool (is_in free s)) [
           | inl has ↦ cond-true (is_in free s) None (Some (row_at given s)) has ∙ sym (cond-true (is_in free s) None (Some (row_at grid s)) has)
@@ -352,11 +354,11 @@ module _ (grid : Rows) (head : ℕ) (block : IsBlock grid head) where
         (subst (λ (k : ℕ). AreLinked n (λ s. word_at taken s 0) (λ s. word_at taken s 1) NO_SLOT k (without slot free)) (sym (head-past n next before NO_SLOT head slot free block.chain has (omega (arith, block.count)))) on)
 
     pub taken-block : IsBlock taken first
-    taken-block = block_after taken first (without slot free) length-taken refl even-taken taken-chain
+    taken-block = block_after taken first (without slot free) length-taken refl refl even-taken taken-chain
 
     pub taken-stacks : stacks_of taken first ≡ with_taken slot words seen
     taken-stacks =
-        stacks_after taken first (without slot free) length-taken refl even-taken taken-chain slot (Some words)
+        stacks_after taken first (without slot free) length-taken refl refl even-taken taken-chain slot (Some words)
         (cond-false (is_in (without slot free) slot) None (Some (row_at taken slot)) (is_in-without_it slot free) ∙ ap Some (row_at-with_same past slot words (omega (arith, there, length-past))))
         (λ s within other. ap (λ b. cond b None (Some (row_at taken s))) (is_in-without slot free s other) ∙ elim (cases_Bool (is_in free s)) [
           | inl one ↦ cond-true (is_in free s) None (Some (row_at taken s)) one ∙ sym (cond-true (is_in free s) None (Some (row_at grid s)) one)

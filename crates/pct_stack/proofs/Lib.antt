@@ -2,7 +2,9 @@ pub mod RowLemmas
 pub mod WriteLemmas
 pub mod ChainLemmas
 pub mod BlockLemmas
+pub mod SeenLemmas
 pub mod GiveLemmas
+pub mod GivenRows
 pub mod TakenLemmas
 pub mod CellLemmas
 pub mod BlockLayout

@@ -88,13 +88,13 @@ module _ (grid : Rows) (row : ℕ) (inside : row < length grid.rows) where
 
   -- no word is written
   pub written-first : (new : List ℕ) → with_row row (written 0 new here) grid ≡ grid
-  written-first new = ap (λ (rows : List (List ℕ)). record { width = grid.width; rows = rows }) (set-get_or grid.rows row [])
+  written-first new = ap (λ (rows : List (List ℕ)). record { room = grid.room; width = grid.width; rows = rows }) (set-get_or grid.rows row [])
 
   -- one more word is written
   pub written-next : (i : ℕ) (new : List ℕ) (value : ℕ) → i < length new → i < length here → value ≡ get_or new i 0
       → with_word row i value (with_row row (written i new here) grid) ≡ with_row row (written (i + 1) new here) grid
   written-next i new value short there is =
-      ap (λ (rows : List (List ℕ)). record { width = grid.width; rows = rows })
+      ap (λ (rows : List (List ℕ)). record { room = grid.room; width = grid.width; rows = rows })
       (ap (λ (r : List ℕ). set (set grid.rows row (written i new here)) row (set r i value)) (get_or-set_same grid.rows row (written i new here) [] inside)
       ∙ set-set grid.rows row (written i new here) (set (written i new here) i value)
       ∙ ap (set grid.rows row) (ap (set (written i new here) i) is ∙ written-more i new here 0 short there))
@@ -104,50 +104,42 @@ module _ (grid : Rows) (row : ℕ) (inside : row < length grid.rows) where
   written-last i new all over = ap (λ (r : List ℕ). with_row row r grid) (written-all i new here all over)
 
 -- what is seen of a grid of so many rows
-pub count_of : (n width : ℕ) (words : List ℕ) (seen : Rows) → record { width = width; rows = rows_of n width words } ≡ seen → length seen.rows ≡ n
-count_of n width words seen is = ap (λ (g : Rows). length g.rows) (sym is) ∙ length-rows_of n width words
+pub count_of : (room n width : ℕ) (words : List ℕ) (seen : Rows) → record { room = room; width = width; rows = rows_of n width words } ≡ seen → length seen.rows ≡ n
+count_of room n width words seen is = ap (λ (g : Rows). length g.rows) (sym is) ∙ length-rows_of n width words
 
 -- and each of its rows is as long as its width says
-pub even_of : (n width : ℕ) (words : List ℕ) (seen : Rows) → record { width = width; rows = rows_of n width words } ≡ seen → length words ≡ n * width
+pub even_of : (room n width : ℕ) (words : List ℕ) (seen : Rows) → record { room = room; width = width; rows = rows_of n width words } ≡ seen → length words ≡ n * width
     → (row : ℕ) → row < length seen.rows → length (row_at seen row) ≡ seen.width
-even_of n width words seen is all row inside =
+even_of room n width words seen is all row inside =
     ap (λ (g : Rows). length (row_at g row)) (sym is)
-    ∙ rows_of-even n width words row all (omega (arith, inside, count_of n width words seen is))
+    ∙ rows_of-even n width words row all (omega (arith, inside, count_of room n width words seen is))
     ∙ ap (λ (g : Rows). g.width) is
 
 -- the first words of a row are 0
-module _ (n width : ℕ) (words : List ℕ) (all : length words ≡ n * width) (row : ℕ) (inside : row < n) where
+module _ (room n width : ℕ) (words : List ℕ) (all : length words ≡ n * width) (row : ℕ) (inside : row < n) where
   abbrev rows_seen : Rows
-  rows_seen = record { width = width; rows = rows_of n width words }
+  rows_seen = record { room = room; width = width; rows = rows_of n width words }
 
   in_rows : row < length rows_seen.rows
   in_rows = omega (arith, inside, length-rows_of n width words)
 
-  pub cleared-first : (k : ℕ) → k ≤ width → record { width = width; rows = rows_of n width (set_from 0 (row * width) k words) } ≡ with_row row (written k (replicate width 0) (row_at rows_seen row)) rows_seen
+  pub cleared-first : (k : ℕ) → k ≤ width → record { room = room; width = width; rows = rows_of n width (set_from 0 (row * width) k words) } ≡ with_row row (written k (replicate width 0) (row_at rows_seen row)) rows_seen
   cleared-first zero small = sym (written-first rows_seen row in_rows (replicate width 0))
   cleared-first (suc k) small =
-      ap (λ (rows : List (List ℕ)). record { width = width; rows = rows }) (rows_of-set n width (set_from 0 (row * width) k words) row k 0 inside (omega (arith, small)))
+      ap (λ (rows : List (List ℕ)). record { room = room; width = width; rows = rows }) (rows_of-set n width (set_from 0 (row * width) k words) row k 0 inside (omega (arith, small)))
       ∙ ap (with_word row k 0) (cleared-first k (omega (arith, small)))
       ∙ written-next rows_seen row in_rows k (replicate width 0) 0 (omega (arith, small, length-replicate {A = ℕ} width 0)) (omega (arith, small, rows_of-even n width words row all inside)) (sym (get_or-replicate width k 0 0 (omega (arith, small))))
       ∙ ap (λ j. with_row row (written j (replicate width 0) (row_at rows_seen row)) rows_seen) {x = k + 1} {y = suc k} (omega arith)
 
   -- all words of a row are 0
-  pub cleared-row : record { width = width; rows = rows_of n width (set_from 0 (row * width) width words) } ≡ with_row row (replicate width 0) rows_seen
+  pub cleared-row : record { room = room; width = width; rows = rows_of n width (set_from 0 (row * width) width words) } ≡ with_row row (replicate width 0) rows_seen
   cleared-row =
       cleared-first width (omega arith)
       ∙ written-last rows_seen row in_rows width (replicate width 0) (omega (arith, length-replicate {A = ℕ} width 0)) (omega (arith, rows_of-even n width words row all inside))
 
 -- ---- many items that are written
 
--- all items from the first on up to a number
-pub set_from-then : {X : Type 0} (x : X) (done n : ℕ) (items : List X) → set_from x done n (set_from x 0 done items) ≡ set_from x 0 (done + n) items
-set_from-then x done zero items = ap (λ k. set_from x 0 k items) {x = done} {y = done + 0} (omega arith)
-set_from-then x done (suc n) items =
-    ap (λ l. set l (done + n) x) (set_from-then x done n items)
-    ∙ ap (λ k. set (set_from x 0 (done + n) items) k x) {x = done + n} {y = 0 + (done + n)} (omega arith)
-    ∙ ap (λ k. set_from x 0 k items) {x = suc (done + n)} {y = done + suc n} (omega arith)
-
-pub set_from-written : {X : Type 0} (x d : X) (n k : ℕ) (items : List X) → k ≤ n → k ≤ length items → set_from x 0 k items ≡ written k (replicate n x) items
+set_from-written : {X : Type 0} (x d : X) (n k : ℕ) (items : List X) → k ≤ n → k ≤ length items → set_from x 0 k items ≡ written k (replicate n x) items
 set_from-written x d n zero items few short = refl
 set_from-written {X = X} x d n (suc k) items few short =
     ap (λ l. set l (0 + k) x) (set_from-written x d n k items (omega (arith, few)) (omega (arith, short)))
@@ -157,7 +149,7 @@ set_from-written {X = X} x d n (suc k) items few short =
     ∙ ap (λ p. written p (replicate n x) items) {x = k + 1} {y = suc k} (omega arith)
 
 -- all items are written
-pub set_from-all : {X : Type 0} (x d : X) (n : ℕ) → set_from x 0 n (replicate n d) ≡ replicate n x
-set_from-all {X = X} x d n =
-    set_from-written x d n n (replicate n d) (omega arith) (omega (arith, length-replicate {A = X} n d))
-    ∙ written-all n (replicate n x) (replicate n d) (omega (arith, length-replicate {A = X} n x)) (omega (arith, length-replicate {A = X} n d))
+pub set_from-all : {X : Type 0} (x d : X) (n : ℕ) (items : List X) → length items ≡ n → set_from x 0 n items ≡ replicate n x
+set_from-all {X = X} x d n items all =
+    set_from-written x d n n items (omega arith) (omega (arith, all))
+    ∙ written-all n (replicate n x) items (omega (arith, length-replicate {A = X} n x)) (omega (arith, all))

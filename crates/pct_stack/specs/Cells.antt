@@ -1,5 +1,5 @@
 -- Cells that are empty or have a value.
-use Rattle.std.specs.Prelude.{◌≡◌, ℕ, List, [], ◌∷◌, map, get_or, Option, Some, None}
+use Rattle.std.specs.Prelude.{◌≡◌, ◌≢◌, ℕ, List, [], ◌∷◌, map, get_or, Option, Some, None}
 
 module _ {X : Type 0} where
   -- the values of the cells that have one
@@ -15,3 +15,7 @@ module _ {X : Type 0} where
   -- each cell has a value
   abbrev pub AreFilled : List (Option X) → Type 0
   AreFilled cells = cells ≡ map Some (somes cells)
+
+  -- each cell has a value, or none
+  abbrev pub AreAlike : List (Option X) → Type 0
+  AreAlike cells = somes cells ≢ [] → AreFilled cells

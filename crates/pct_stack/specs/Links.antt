@@ -3,7 +3,7 @@
 use Rattle.std.specs.Prelude.{◌≡◌, ℕ, zero, suc, ◌<◌, ◌≤◌, Bool, false, cond, List, [], ◌∷◌, length, map, nat_eq, nat_lt, Option, Some, None}
 use Rattle.std.specs.List.{list_any, range_with_len}
 use Rattle.pct_stack.specs.Rows.{Rows, row_at, word_at, with_word}
-use Rattle.pct_stack.specs.Stacks.{Stacks}
+use Rattle.pct_stack.specs.Stacks.{Stacks, all_free}
 use Rattle.pct_stack.specs.declared.stack_block.TheConstants.{NO_SLOT}
 
 -- the slot is in the list
@@ -33,6 +33,10 @@ slots_of grid free = map (λ slot. cond (is_in free slot) None (Some (row_at gri
 abbrev pub stacks_of : Rows → ℕ → Stacks
 stacks_of grid head = record { width = grid.width; free = free_of grid head; slots = slots_of grid (free_of grid head) }
 
+-- the same where the rows were written; before that all slots are free
+abbrev pub stacks_seen : Rows → ℕ → Stacks
+stacks_seen grid head = cond (nat_eq (length grid.rows) 0) (all_free grid.room grid.width) (stacks_of grid head)
+
 -- the links of the rows lead over the list
 abbrev pub IsChain : Rows → ℕ → List ℕ → Type 0
 IsChain grid head free = AreLinked (length grid.rows) (λ s. word_at grid s 0) (λ s. word_at grid s 1) NO_SLOT head free
@@ -42,6 +46,8 @@ abbrev pub AreEven : Rows → Type 0
 AreEven grid = (row : ℕ) → row < length grid.rows → length (row_at grid row) ≡ grid.width
 
 pub record IsBlock (grid : Rows) (head : ℕ) : Type 0 where
+  pub some : 1 ≤ grid.room
+  pub few : grid.room ≤ 64
   pub count : length grid.rows ≤ 64
   pub width : 2 ≤ grid.width
   pub even : AreEven grid

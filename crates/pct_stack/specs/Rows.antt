@@ -1,8 +1,14 @@
 -- Rows of words, and how they lie in one list. No public clause cites this module.
 use Rattle.std.specs.Prelude.{ℕ, zero, suc, ◌+◌, List, [], ◌∷◌, take, drop, slice_index_or, slice_set}
 
--- rows of `width` words each
+-- words in a block of memory: how many there is room for, and the words if they were written
+pub record BlockWords : Type 0 where
+  pub room : ℕ
+  pub words : List ℕ
+
+-- rows of `width` words each, and how many there is room for
 pub record Rows : Type 0 where
+  pub room : ℕ
   pub width : ℕ
   pub rows : List (List ℕ)
 
@@ -16,7 +22,7 @@ word_at grid row i = slice_index_or (row_at grid row) i 0
 
 -- the row has these words
 abbrev pub with_row : ℕ → List ℕ → Rows → Rows
-with_row row words grid = record { width = grid.width; rows = slice_set grid.rows row words }
+with_row row words grid = record { room = grid.room; width = grid.width; rows = slice_set grid.rows row words }
 
 -- the word of the row has this value
 abbrev pub with_word : ℕ → ℕ → ℕ → Rows → Rows

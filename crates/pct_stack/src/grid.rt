@@ -1,6 +1,6 @@
 //! Rows of words, one after the other in one block: word `i` of row `row` is at `row * width + i`.
 
-ghost use Rattle.std.specs.Prelude.{◌≡◌, ℕ, ◌+◌, ◌-◌, ◌*◌, ◌<◌, ◌≤◌, length, replicate, slice_index_or, IfOk};
+ghost use Rattle.std.specs.Prelude.{◌≡◌, [], ℕ, ◌+◌, ◌-◌, ◌*◌, ◌<◌, ◌≤◌, length, replicate, slice_index_or, IfOk};
 ghost use Rattle.pct_stack.specs.Rows.{row_at, word_at, with_row, with_word};
 
 use crate::WordsFrom;
@@ -9,10 +9,13 @@ use pct_io::NoMemory;
 use std::alloc::Global;
 use std::marker::Model;
 
-/// At most 64 rows of at most 1,024 words each.
+/// Room for at most 64 rows of at most 1,024 words each. At first there are no rows, and then all of them.
 #[derive(Drop)]
 pub struct Grid {
     words: Words,
+    // How many rows there is room for.
+    room: u32,
+    // How many there are.
     rows: u32,
     width: u32,
 }
@@ -23,20 +26,33 @@ impl Model for Grid {
 
     ghost Value = { Rows };
 
-    ghost view = { λ g. record { width = g.width; rows = rows_of g.rows g.width g.words } };
+    ghost view = { λ g. record { room = g.room; width = g.width; rows = rows_of g.rows g.width g.words.words } };
 
-    ghost invariant = { λ g. (length g.words ≡ g.rows * g.width) × (g.rows ≤ 64) × (g.width ≤ 1024) };
+    ghost invariant = { λ g. (length g.words.words ≡ g.rows * g.width) × (g.rows ≤ 64) × (g.width ≤ 1024) × (g.words.room ≡ g.room * g.width) × (g.room ≤ 64) };
 }
 
 impl Grid {
-    /// At most 64 rows of at most 1,024 words each, all of which are 0.
-    pub(crate) fn new(alloc: Global, rows: u32, width: u32) -> Result<Grid, NoMemory>
-        requires rows { rows ≤ 64 }
+    /// Room for at most 64 rows of at most 1,024 words each. There are no rows.
+    pub(crate) fn new(alloc: Global, room: u32, width: u32) -> Result<Grid, NoMemory>
+        requires room { room ≤ 64 }
         requires width { width ≤ 1024 }
-        ensures { IfOk result (λ grid. grid ≡ record { width = width; rows = replicate rows (replicate width 0) }) }
+        ensures { IfOk result (λ grid. grid ≡ record { room = room; width = width; rows = [] }) }
     {
-        let words = Words::new(alloc, rows as usize * width as usize)?;
-        Ok(Grid { words, rows, width })
+        let words = Words::new(alloc, room as usize * width as usize)?;
+        Ok(Grid {
+            words,
+            room,
+            rows: 0,
+            width,
+        })
+    }
+
+    /// Makes all rows that there is room for, with words that are 0.
+    pub(crate) fn fill(&mut self)
+        ensures { self.new ≡ record { room = self.old.room; width = self.old.width; rows = replicate self.old.room (replicate self.old.width 0) } }
+    {
+        self.words.fill();
+        self.rows = self.room;
     }
 
     /// The number of rows, at most 64.

@@ -1,7 +1,8 @@
 //! Slots of equal size in one block. Each free slot is linked to the next free slot and to the one before it, by its first two words.
 
 ghost use Rattle.std.specs.Prelude.{◌≡◌, ◌<◌, ◌≤◌, ◌+◌, ◌-◌, ◌*◌, ℕ, true, false, [], length, replicate, slice_get, slice_index_or, slice_set, IfOk, IfSome};
-ghost use Rattle.pct_stack.specs.Links.{with_front, with_bypass, head_without};
+ghost use Rattle.pct_stack.specs.Links.{IsBlock, stacks_of, stacks_seen, with_front, with_bypass, head_without};
+ghost use Rattle.pct_stack.specs.declared.stack_block.TheConstants.{NO_SLOT};
 ghost use Rattle.pct_stack.specs.Stacks.{is_taken, is_free, words_at, all_free, with_taken, with_given, with_words, with_kept_alone};
 
 use crate::WordsFrom;
@@ -21,7 +22,7 @@ const NO_SLOT: u32 = u32::MAX;
 /// It can be used again when the thread has ended and was joined or detached (pthread_join, pthread_detach). That is up to the caller,
 /// as is the error EAGAIN of pthread_create where no slot is free.
 ///
-/// No call but `new` takes memory.
+/// No call but `new` takes memory. The memory is written when the first slot is taken.
 #[derive(Drop)]
 pub struct StackBlock {
     grid: Grid,
@@ -31,11 +32,11 @@ pub struct StackBlock {
 
 impl Model for StackBlock {
     ghost use Rattle.pct_stack.specs.Stacks.{Stacks};
-    ghost use Rattle.pct_stack.specs.Links.{stacks_of, IsBlock};
+    ghost use Rattle.pct_stack.specs.Links.{stacks_seen, IsBlock};
 
     ghost Value = { Stacks };
 
-    ghost view = { λ b. stacks_of b.grid b.head };
+    ghost view = { λ b. stacks_seen b.grid b.head };
 
     ghost invariant = { λ b. IsBlock b.grid b.head };
 }
@@ -51,12 +52,10 @@ impl StackBlock {
         ensures { IfOk result (λ block. block ≡ all_free slots words) }
     {
         let grid = Grid::new(alloc, slots, words)?;
-        let mut block = StackBlock {
+        Ok(StackBlock {
             grid,
             head: NO_SLOT,
-        };
-        block.give_all(None);
-        Ok(block)
+        })
     }
 
     /// Frees all slots but the one to keep, which must be taken and keeps its words. The free slots are then handed out in rising order.
@@ -65,7 +64,7 @@ impl StackBlock {
         ensures { self.new ≡ with_kept_alone keep self.old }
     {
         self.head = NO_SLOT;
-        self.give_all(keep);
+        give_all(&mut self.grid, &mut self.head, keep);
     }
 
     /// Takes the next free slot, all of whose words are then 0. `None` exactly if no slot is free.
@@ -76,6 +75,7 @@ impl StackBlock {
         ensures full { result ≡ None → (slot : ℕ) → is_free self.old slot ≡ false }
         ensures unchanged { result ≡ None → self.new ≡ self.old }
     {
+        begin(&mut self.grid, &mut self.head);
         let slot = self.head;
         if slot >= self.grid.row_count() {
             return None;
@@ -89,6 +89,7 @@ impl StackBlock {
         requires { is_free self.old slot ≡ true }
         ensures { self.new ≡ with_taken slot (replicate self.old.width 0) self.old }
     {
+        begin(&mut self.grid, &mut self.head);
         unlink(&mut self.grid, &mut self.head, slot);
         self.grid.clear(slot);
     }
@@ -166,20 +167,48 @@ impl StackBlock {
     {
         self.grid.copy_row(&other.grid, slot);
     }
+}
 
-    // Gives the slots, all of which must be taken, from the last to the first, but the one to keep.
-    fn give_all(&mut self, keep: Option<u32>)
-        requires none { self.old.free ≡ [] }
-        requires taken { (slot : ℕ) → slot < length self.old.slots → is_taken self.old slot ≡ true }
-        requires keep { IfSome keep (λ slot. slot < length self.old.slots) }
-        ensures { self.new ≡ with_kept_alone keep self.old }
-    {
-        let count = self.grid.row_count();
-        for done in 0..count {
-            let slot = count - 1 - done;
-            if keep != Some(slot) {
-                self.give(slot);
-            }
+// Makes the rows and their links, if there are none yet. What is seen of the block stays.
+#[inline(always)]
+fn begin(grid: &mut Grid, head: &mut u32)
+    requires { IsBlock grid.old head.old }
+    ensures block { IsBlock grid.new head.new }
+    ensures rows { 1 ≤ length grid.new.rows }
+    ensures same { stacks_of grid.new head.new ≡ stacks_seen grid.old head.old }
+{
+    if grid.row_count() == 0 {
+        make_rows(grid, head);
+    }
+}
+
+// Makes the rows. All slots are free, in rising order.
+fn make_rows(grid: &mut Grid, head: &mut u32)
+    requires { IsBlock grid.old head.old }
+    ensures block { IsBlock grid.new head.new }
+    ensures rows { 1 ≤ length grid.new.rows }
+    ensures free { stacks_of grid.new head.new ≡ all_free grid.old.room grid.old.width }
+{
+    grid.fill();
+    *head = NO_SLOT;
+    give_all(grid, head, None);
+}
+
+// Gives the slots of a block without free slots, from the last to the first, but the one to keep.
+fn give_all(grid: &mut Grid, head: &mut u32, keep: Option<u32>)
+    requires block { IsBlock grid.old head.old }
+    requires none { head.old ≡ NO_SLOT }
+    requires keep { IfSome keep (λ slot. slot < length grid.old.rows) }
+    ensures block { IsBlock grid.new head.new }
+    ensures rows { length grid.new.rows ≡ length grid.old.rows }
+    ensures shape { (grid.new.room ≡ grid.old.room) × (grid.new.width ≡ grid.old.width) }
+    ensures given { stacks_of grid.new head.new ≡ with_kept_alone keep (stacks_of grid.old head.old) }
+{
+    let count = grid.row_count();
+    for done in 0..count {
+        let slot = count - 1 - done;
+        if keep != Some(slot) {
+            link(grid, head, slot);
         }
     }
 }

@@ -92,6 +92,23 @@ fn the_words_of_a_slot_are_copied(rt: HostRuntime) -> Result<(), Fail> {
     Ok(())
 }
 
+#[test]
+fn words_are_read_and_set_by_their_index_over_all_slots(rt: HostRuntime) -> Result<(), Fail> {
+    let mut block = StackBlock::new(rt.alloc(), 4, 3)?;
+    block.take_slot(2);
+    let first = block.first_of(2);
+    assert_eq!(rt; first, 6);
+    block.set_at(2, 7, 5);
+    assert_eq!(rt;
+        (block.word(2, 0), block.word(2, 1), block.word(2, 2)),
+        (0, 5, 0)
+    );
+    let words = block.words_from(2, 6);
+    assert_eq!(rt; (words.word(0), words.word(1)), (0, 5));
+    assert_eq!(rt; words.after(1).word(0), 5);
+    Ok(())
+}
+
 // Compiles for a type only if its values may cross threads.
 fn crosses_threads<T: Send + Sync>(_value: &T) {}
 

@@ -6,7 +6,7 @@ use std::marker::Model;
 /// The words of a block from one of them on, where they lie. In a contract it is the list of the words.
 #[derive(Drop)]
 pub struct WordsFrom<'a> {
-    // Those of all words of the block. Each has a value.
+    // Those of all words of the block. Each has a value, or none.
     pub(crate) cells: &'a Cells<u32>,
     pub(crate) start: BlockStart<u32>,
     // The index of the first word.
@@ -15,13 +15,13 @@ pub struct WordsFrom<'a> {
 
 impl<'a> Model for WordsFrom<'a> {
     ghost use Rattle.std.specs.Prelude.{ℕ, List, ◌≡◌, ◌≤◌, length, drop};
-    ghost use Rattle.pct_stack.specs.Cells.{somes, AreFilled};
+    ghost use Rattle.pct_stack.specs.Cells.{somes, AreAlike};
 
     ghost Value = { List ℕ };
 
     ghost view = { λ w. drop w.first (somes w.cells.now.values) };
 
-    ghost invariant = { λ w. (w.start.ptr ≡ w.cells.now.at) × AreFilled w.cells.now.values × (w.first ≤ length (somes w.cells.now.values)) × (length (somes w.cells.now.values) ≤ 65536) };
+    ghost invariant = { λ w. (w.start.ptr ≡ w.cells.now.at) × AreAlike w.cells.now.values × (w.first ≤ length (somes w.cells.now.values)) × (length (somes w.cells.now.values) ≤ 65536) };
 }
 
 impl<'a> WordsFrom<'a> {

@@ -71,7 +71,7 @@ pub record IsStep (row after : Row) (old new : Stacks) (slot : ℕ) (change : Sl
   pub end : after.occupied ≡ true → IsEnd slot after
   pub seen : slot_in after (words_at new slot) ≡ change (slot_in row (words_at old slot))
 
--- ---- what a row tells
+-- ---- what a row says of its thread
 
 -- the thread with this id holds the slot
 abbrev pub is_row : ℕ → Row → Bool

@@ -1,4 +1,4 @@
-use Rattle.pct_names.proofs.Names.{◌+◌, ◌++◌, ◌<◌, [], ap, event_of, false≢true, is_some, length, map, option_map, refl, subst, sym, ◌∙◌, ◌∷◌}
+use Rattle.pct_names.proofs.Names.{drop, ◌+◌, ◌++◌, ◌<◌, [], ap, event_of, false≢true, is_some, length, map, option_map, refl, subst, sym, ◌∙◌, ◌∷◌}
 use Rattle.pct_names.proofs.Names.{ℕ, ◌≡◌, ◌≤◌}
 use Rattle.std.proofs.lemmas.Bool.{ltb-true, ltb-false}
 use Rattle.pct_engine_laws.specs.Seen.{Seen, seen}
@@ -45,7 +45,7 @@ returns-clause-stands g c =
     let program = c.args.program.now in
     let trace = c.args.trace.now in
     let left : length trace.history < trace.budget = ltb-true (length trace.history) trace.budget (sym c.has_room.ensures ∙ c.if-not-has_room.false) in
-    let moved : TraceValue = record trace { history = trace.history ++ c.args.entry ∷ []; events = trace.events ++ map (event_of c.args.entry) c.step.new.transition.events } in
+    let moved : TraceValue = record trace { history = trace.history ++ c.args.entry ∷ []; planned = drop 1 trace.planned; events = trace.events ++ map (event_of c.args.entry) c.step.new.transition.events } in
     subst (λ (t : TraceValue). StandsFor program t c.step.new.self) (sym c.record_step.ensures)
     (subst (λ (v : Seen). StandsFor program moved v) (sym c.if-not-step.ensures.made)
     (stands-more program trace c.args.machine.now c.args.entry c.step.new.transition left c.requires.stands c.if-not-step.ensures.legal))

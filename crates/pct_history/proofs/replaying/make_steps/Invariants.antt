@@ -1,11 +1,10 @@
-use Rattle.pct_names.proofs.Names.{is_some, length, run, take, true, ◌≡◌, ◌≤◌}
+use Rattle.pct_names.proofs.Names.{drop, is_some, run, take, true, ◌≡◌}
 use Rattle.pct_history.proofs.replaying.make_steps.Given as goal
 
--- the steps of the entries so far were made
-abbrev pub invariant-loop-entry : goal.invariant-loop-entry
-invariant-loop-entry g l = record {
-  entry_number : l.entry_number ≡ l.entry-index;
-  within : l.entry-index ≤ length l.entries;
-  made : l.engine ≡ record l.initial.engine { history = take l.entry-index l.entries };
-  legal : is_some (run l.initial.engine.script l.initial.engine.config (take l.entry-index l.entries)) ≡ true;
+-- the steps of the entries so far were made, and the others are still planned
+abbrev pub invariant-loop-index : goal.invariant-loop-index
+invariant-loop-index g l = record {
+  made : l.run.engine ≡ record l.initial.run.engine { history = take l.index l.initial.run.planned };
+  planned : l.run.planned ≡ drop l.index l.initial.run.planned;
+  legal : is_some (run l.initial.run.engine.script l.initial.run.engine.config (take l.index l.initial.run.planned)) ≡ true;
 }

@@ -1,5 +1,5 @@
 use Rattle.pct_engine.proofs.EngineLaws.{keeps_laws}
 use Rattle.pct_history.proofs.replaying.replay.Goals as goal
 
-pub returns-in-None-clause-laws : goal.returns-in-None-clause-laws
-returns-in-None-clause-laws c = keeps_laws _
+pub returns-in_default-None-clause-laws : goal.returns-in_default-None-clause-laws
+returns-in_default-None-clause-laws c = keeps_laws _

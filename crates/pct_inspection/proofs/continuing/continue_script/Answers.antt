@@ -5,7 +5,7 @@ use Rattle.pct_inspection.proofs.continuing.continue_script.Goals as goal
 pub returns-in-Ok-follow : goal.returns-in-Ok-follow
 returns-in-Ok-follow c = λ words input asks has.
     continue-answer words input c.args.seed c.args.script c.in-Ok.config c.in-Ok.entries c.in-Ok-follow.engine c.continue_seeded.new.engine c.in-Ok-follow.illegal asks has.has_script
-    (rw (c.format_of.ensures, has.rest) at c.in-Ok.ensures.read) (rw c.as_slice.ensures at c.in-Ok-follow.ensures) c.continue_seeded.ensures.same c.continue_seeded.ensures.run
+    (rw (c.format_of.ensures, has.rest) at c.in-Ok.ensures.read) c.in-Ok-follow.ensures.followed c.continue_seeded.ensures.same c.continue_seeded.ensures.run
 
 pub returns-in-Err-Refused : goal.returns-in-Err-Refused
 returns-in-Err-Refused c = λ words input asks has.

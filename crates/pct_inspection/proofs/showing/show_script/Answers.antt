@@ -15,7 +15,7 @@ returns-in-Choices c = λ words input asks has of_text.
     let runs = c.show_state.ensures.runs in
     let followed = c.in_ok-engine-in-Choices in
     state-answered words input c.args.script c.in-Ok.config c.in-Ok.entries has.has_script (rw (c.format_of.ensures, has.rest) at c.in-Ok.ensures.read) followed.engine followed.illegal runs.0 c.in_ok-lines.lines c.args.view c.show_state.result
-    (rw c.as_slice.ensures at followed.ensures) runs.1
+    followed.ensures.followed runs.1
     (c.in_ok-lines.ensures ∙ ap statement_lines of_text)
     c.in-Choices.is
     asks
@@ -28,8 +28,8 @@ returns-in-Ok c = λ words input asks has of_text.
     steps-answered words input c.args.script c.in-Ok.config c.in-Ok.entries has.has_script (rw (c.format_of.ensures, has.rest) at c.in-Ok.ensures.read) c.in-Steps.form shown.illegal c.in_ok-lines.lines (text_in shown.text) shown.verdict c.in_form.result
     (subst (λ (view : View). AsksFor words (inspection.Show view)) c.in-Steps.is asks)
     (c.in_ok-lines.ensures ∙ ap statement_lines of_text)
-    (subst (λ (entries : List Entry). ShowsTrace c.in_ok-lines.lines c.args.script c.in-Ok.config entries shown.illegal (text_in shown.text) shown.verdict) c.as_slice-in-Steps.ensures
-    (subst (λ (e : EngineValue). ShowsTrace c.in_ok-lines.lines e.script e.config c.as_slice-in-Steps.result.now shown.illegal (text_in shown.text) shown.verdict) c.in_ok-engine-in-Steps.ensures steps.ensures))
+    (subst (λ (entries : List Entry). ShowsTrace c.in_ok-lines.lines c.args.script c.in-Ok.config entries shown.illegal (text_in shown.text) shown.verdict) c.as_slice.ensures
+    (subst (λ (e : EngineValue). ShowsTrace c.in_ok-lines.lines e.script e.config c.as_slice.result.now shown.illegal (text_in shown.text) shown.verdict) c.in_ok-engine-in-Steps.ensures steps.ensures))
     c.in_form.ensures
 
 pub returns-in-Err-Refused : goal.returns-in-Err-Refused

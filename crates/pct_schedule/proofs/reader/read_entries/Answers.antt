@@ -48,8 +48,8 @@ returns-in_err-entry-clause-read c =
     (at_entry_line c.args.end c.loop-rest.number c.len-in-loop-rest.result c.args.config c.loop-rest.entries.items _ _ _ _ reads (sym c.if-begins_with.ensures) c.loop-rest.invariant.read many)
     c.in_err-entry.ensures)
 
-pub returns-in_err-push-2-clause-memory : goal.returns-in_err-push-2-clause-memory
-returns-in_err-push-2-clause-memory c = λ _.
+pub returns-in_err-add_entry-2-clause-memory : goal.returns-in_err-add_entry-2-clause-memory
+returns-in_err-add_entry-2-clause-memory c = λ _.
     let first = rw c.unwrap.ensures at c.first_line.ensures in
     let reads = reads_line c.loop-rest.rest.now c.unwrap.result.0.now c.strip_cr-line.result.now c.unwrap.result.1.now first c.strip_cr-line.ensures in
     first_stays c.args.config.format (length c.loop-rest.entries.items) c.args.lines.text.now c.loop-rest.rest.now c.loop-rest.invariant.start c.loop-rest.invariant.memory
@@ -62,12 +62,12 @@ loop-rest-preserved c =
     let many : c.len-in-loop-rest.result ≡ length c.loop-rest.entries.items = omega (arith, c.len-in-loop-rest.ensures, c.loop-rest.entries.ok.0) in
     record {
       read =
-          rw c.in_ok-push-2.ensures.items
+          rw c.in_ok-add_entry-2.ensures.items
           (goes_on _ _ c.in_ok-entry.entry _
           (at_entry_line c.args.end c.loop-rest.number c.len-in-loop-rest.result c.args.config c.loop-rest.entries.items _ _ _ _ reads (sym c.if-begins_with.ensures) c.loop-rest.invariant.read many)
           c.in_ok-entry.ensures);
       bound = omega (arith, first.shorter, c.loop-rest.invariant.bound);
-      start = λ none. absurd (omega (arith, none, ap length c.in_ok-push-2.ensures.items, length-append c.loop-rest.entries.items (c.in_ok-entry.entry ∷ [])));
+      start = λ none. absurd (omega (arith, none, ap length c.in_ok-add_entry-2.ensures.items, length-append c.loop-rest.entries.items (c.in_ok-entry.entry ∷ [])));
       memory = λ _.
           first_stays c.args.config.format (length c.loop-rest.entries.items) c.args.lines.text.now c.loop-rest.rest.now c.loop-rest.invariant.start c.loop-rest.invariant.memory
           (first_is_entry c.args.config.format c.loop-rest.number c.args.config.budget c.len-in-loop-rest.result _ _ _ c.in_ok-entry.entry reads (sym c.if-begins_with.ensures) c.in_ok-entry.ensures);
@@ -88,8 +88,8 @@ returns-in-Optional-clause-read c =
     (no_end c.args.end c.loop-rest.number c.args.config c.loop-rest.entries.items rest _ none c.loop-rest.invariant.read
     ∙ ap (λ to. unended to c.loop-rest.number c.args.config c.loop-rest.entries.items) c.in-Optional.is)
 
-pub returns-in_err-push-clause-memory : goal.returns-in_err-push-clause-memory
-returns-in_err-push-clause-memory c = λ _.
+pub returns-in_err-add_entry-clause-memory : goal.returns-in_err-add_entry-clause-memory
+returns-in_err-add_entry-clause-memory c = λ _.
     let first = c.in-Some.ensures in
     let reads = reads_first c.loop-rest.rest.now c.in-Some.entry c.in-Some.after.now first in
     let read = read_first c.loop-rest.number c.args.config.budget c.len.result c.args.config.format c.loop-rest.rest.now c.in-Some.entry c.in-Some.after.now first c.if-len-config.true in
@@ -104,12 +104,12 @@ loop-rest-preserved-in-loop-rest c =
     let many : c.len.result ≡ length c.loop-rest.entries.items = omega (arith, c.len.ensures, c.loop-rest.entries.ok.0) in
     record {
       read =
-          rw c.in_ok-push.ensures.items
+          rw c.in_ok-add_entry.ensures.items
           (goes_on _ _ c.in-Some.entry _
           (at_entry_line c.args.end c.loop-rest.number c.len.result c.args.config c.loop-rest.entries.items _ _ _ _ reads first.goes_on c.loop-rest.invariant.read many)
           read);
       bound = omega (arith, first.first.shorter, c.loop-rest.invariant.bound);
-      start = λ none. absurd (omega (arith, none, ap length c.in_ok-push.ensures.items, length-append c.loop-rest.entries.items (c.in-Some.entry ∷ [])));
+      start = λ none. absurd (omega (arith, none, ap length c.in_ok-add_entry.ensures.items, length-append c.loop-rest.entries.items (c.in-Some.entry ∷ [])));
       memory = λ _.
           first_stays c.args.config.format (length c.loop-rest.entries.items) c.args.lines.text.now c.loop-rest.rest.now c.loop-rest.invariant.start c.loop-rest.invariant.memory
           (first_is_entry c.args.config.format c.loop-rest.number c.args.config.budget c.len.result _ _ _ c.in-Some.entry reads first.goes_on read);

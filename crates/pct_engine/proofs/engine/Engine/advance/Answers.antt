@@ -1,4 +1,4 @@
-use Rattle.pct_names.proofs.Names.{◌++◌, ◌<◌, [], ap, arith, event_of, is_some, length, map, None, Run, Some, subst, sym, ◌∙◌, ◌∷◌, ◌≤◌}
+use Rattle.pct_names.proofs.Names.{drop, ◌++◌, ◌<◌, [], ap, arith, event_of, is_some, length, map, None, Run, Some, subst, sym, ◌∙◌, ◌∷◌, ◌≤◌}
 use Rattle.std.proofs.lemmas.Bool.{ltb-true, ltb-false}
 use Rattle.pct_engine_laws.specs.Seen.{Seen}
 use Rattle.pct_engine.specs.Traces.{TraceValue}
@@ -47,7 +47,7 @@ invariant_of-self-2 c =
     let s = c.self.inside in
     let e = c.in_ok-entry.entry in
     let left : length s.trace.history < s.trace.budget = ltb-true (length s.trace.history) s.trace.budget (sym c.has_room.ensures ∙ c.if-not-has_room.false) in
-    let moved : TraceValue = record s.trace { history = s.trace.history ++ e ∷ []; events = s.trace.events ++ map (event_of e) c.advance.new.transition.events } in (
+    let moved : TraceValue = record s.trace { history = s.trace.history ++ e ∷ []; planned = drop 1 s.trace.planned; events = s.trace.events ++ map (event_of e) c.advance.new.transition.events } in (
       subst (λ (t : TraceValue). StandsFor s.program t c.advance.new.self) (sym c.record_step.ensures)
           (subst (λ (v : Seen). StandsFor s.program moved v) (sym c.in_ok-entry.ensures.made)
           (stands-more s.program s.trace s.machine e c.advance.new.transition left c.self.invariant.0 c.in_ok-entry.ensures.legal)),

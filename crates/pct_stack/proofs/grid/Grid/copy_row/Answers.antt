@@ -12,7 +12,7 @@ loop-i-preserved c =
     let old : Rows = c.args.self.now in
     let new : List ℕ = row_at c.args.other.now c.args.row in
     let width : s.width ≡ old.width = ap (λ (g : Rows). g.width) c.self.view_is in
-    let long : length (row_at old c.args.row) ≡ old.width = even_of s.rows s.width s.words old c.self.view_is c.self.invariant.0 c.args.row c.requires.own in
+    let long : length (row_at old c.args.row) ≡ old.width = even_of s.room s.rows s.width s.words.words old c.self.view_is c.self.invariant.0 c.args.row c.requires.own in
     c.set_word.ensures ∙ ap (with_word c.args.row c.loop-i.i c.word.result) c.loop-i.invariant
     ∙ written-next old c.args.row c.requires.own c.loop-i.i new c.word.result (omega (arith, c.loop-i-test.true, width, c.requires.width, c.requires.even)) (omega (arith, c.loop-i-test.true, width, long)) c.word.ensures
 
@@ -22,6 +22,6 @@ returns c =
     let old : Rows = c.args.self.now in
     let new : List ℕ = row_at c.args.other.now c.args.row in
     let width : s.width ≡ old.width = ap (λ (g : Rows). g.width) c.self.view_is in
-    let long : length (row_at old c.args.row) ≡ old.width = even_of s.rows s.width s.words old c.self.view_is c.self.invariant.0 c.args.row c.requires.own in
+    let long : length (row_at old c.args.row) ≡ old.width = even_of s.room s.rows s.width s.words.words old c.self.view_is c.self.invariant.0 c.args.row c.requires.own in
     c.loop-i.invariant
     ∙ written-last old c.args.row c.requires.own c.loop-i.i new (omega (arith, c.loop-i-test.false, width, c.requires.width, c.requires.even)) (omega (arith, c.loop-i-test.false, width, long))

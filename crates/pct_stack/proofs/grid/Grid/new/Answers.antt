@@ -1,9 +1,8 @@
-use Rattle.std.proofs.Common.{ℕ, List, ◌∙◌, ap}
-use Rattle.pct_stack.specs.Rows.{rows_of}
-use Rattle.pct_stack.proofs.RowLemmas.{rows_of-zeros}
+use Rattle.std.proofs.Common.{length, ap, arith, zero-mul}
+use Rattle.pct_stack.specs.Rows.{BlockWords}
 use Rattle.pct_stack.proofs.grid.Grid.new.Goals as goal
 
-pub returns : goal.returns
-returns c =
-    ap (λ (rows : List (List ℕ)). record { width = c.args.width; rows = rows })
-    (ap (λ (words : List ℕ). rows_of c.args.rows c.args.width words) c.in_ok-words.ensures ∙ rows_of-zeros c.args.rows c.args.width)
+pub invariant_of-result : goal.invariant_of-result
+invariant_of-result c =
+    let made = c.in_ok-words.ensures in
+    (omega (arith, ap (λ (w : BlockWords). length w.words) made, zero-mul c.args.width), omega arith, c.requires.width, ap (λ (w : BlockWords). w.room) made, c.requires.room)

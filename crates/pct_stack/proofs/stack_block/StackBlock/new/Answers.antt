@@ -1,20 +1,17 @@
-use Rattle.std.proofs.Common.{◌≡◌, ℕ, length, replicate, List, ◌∙◌, ap, arith}
-use Rattle.std.proofs.lemmas.List.{length-replicate}
+use Rattle.std.proofs.Common.{◌≡◌, length, ◌∙◌, ap, arith}
 use Rattle.pct_stack.specs.Rows.{Rows}
 use Rattle.pct_stack.specs.Stacks.{all_free}
-use Rattle.pct_stack.specs.Links.{free_of}
-use Rattle.pct_stack.proofs.BlockLemmas.{length-slots_of, full_taken}
+use Rattle.pct_stack.proofs.SeenLemmas.{seen_blank, blank-block}
 use Rattle.pct_stack.proofs.stack_block.StackBlock.new.Goals as goal
 
-pub give_all-requires-clause-taken : goal.give_all-requires-clause-taken
-give_all-requires-clause-taken c =
+pub invariant_of-result : goal.invariant_of-result
+invariant_of-result c =
     let grid : Rows = c.in_ok-grid.grid in
-    let count : length grid.rows ≡ c.args.slots = ap (λ (g : Rows). length g.rows) c.in_ok-grid.ensures ∙ length-replicate {A = List ℕ} c.args.slots (replicate c.args.words 0) in
-    full_taken grid 4294967295 (omega (arith, count, c.requires.few))
+    let room : grid.room ≡ c.args.slots = ap (λ (g : Rows). g.room) c.in_ok-grid.ensures in
+    blank-block grid (ap (λ (g : Rows). length g.rows) c.in_ok-grid.ensures)
+    (omega (arith, room, c.requires.some)) (omega (arith, room, c.requires.few)) (omega (arith, ap (λ (g : Rows). g.width) c.in_ok-grid.ensures, c.requires.linked))
 
 pub returns : goal.returns
 returns c =
     let grid : Rows = c.in_ok-grid.grid in
-    let count : length grid.rows ≡ c.args.slots = ap (λ (g : Rows). length g.rows) c.in_ok-grid.ensures ∙ length-replicate {A = List ℕ} c.args.slots (replicate c.args.words 0) in
-    let width : grid.width ≡ c.args.words = ap (λ (g : Rows). g.width) c.in_ok-grid.ensures in
-    c.give_all.ensures ∙ (λ j. all_free ((length-slots_of grid (free_of grid 4294967295) ∙ count) j) (width j))
+    seen_blank grid 4294967295 (ap (λ (g : Rows). length g.rows) c.in_ok-grid.ensures) ∙ ap (λ (g : Rows). all_free g.room g.width) c.in_ok-grid.ensures
