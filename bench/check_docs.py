@@ -144,9 +144,12 @@ def plain(text):
 
 
 def page_of_reasons(page, kind):
-    """The sentences of a page, by refusal: each reason is a heading, and its cause and mend are items below it."""
-    table, refusal = {}, None
+    """The sentences of a page, by refusal: each reason is a heading, and its cause and mend are items below it. Those of a
+    section on tallies are of tallies."""
+    table, refusal, usual = {}, None, kind
     for line in page.read_text().splitlines():
+        if line.startswith("## "):
+            kind = "tally" if line.startswith("## Tally of a range") else usual
         heading = re.fullmatch(r"#+ (.*)", line)
         item = re.fullmatch(r"- \*(Usual cause|Mend):\* (.*)", line)
         if heading:

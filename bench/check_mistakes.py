@@ -334,6 +334,8 @@ CALLS = [
     Case("demo with a file", "./pct demo a.pct", 5, "refused words\n", [USAGE], {"a.pct": SMALLEST}),
     Case("demo reads nothing", "{ ./pct demo 0 | head -n 1; cat; } < a.pct", 0, "demo 0\n" + SMALLEST, [], {"a.pct": SMALLEST}),
     Case("sample with a file", "./pct sample 2 a.pct | head -n 2", 0, "sample 2\ncomplete 2 first 1\n", [], {"a.pct": SMALLEST}),
+    Case("sums of files", "./pct tally 1 2 a.pct > one; ./pct tally 3 3 a.pct > two; ./pct sum two one | head -n 1; ./pct sum one two one", 16, "tally 1 3\nrefused tally 21 overlap\n", ["the files:21: overlap", "    tally 1 2", "Mend: leave one of them out"], {"a.pct": SMALLEST}),
+    Case("sum of a file that is missing", "./pct tally 1 2 a.pct > one; ./pct sum one two", 66, "", ["two is no file that can be read"], {"a.pct": SMALLEST}),
     Case("sample without a number", "./pct sample a.pct", 5, "refused words\n", [USAGE, "pct sample K"], {"a.pct": SMALLEST}),
     Case("a command in upper case", "./pct RUN a.pct", 5, "refused words\n", [USAGE], {"a.pct": SMALLEST}),
     Case("build with a word more", "./pct build now", 5, "refused words\n", [USAGE]),

@@ -323,6 +323,12 @@ WORDS = [
     ("a demo without its number", "demo", "demo: its number is missing, 0 to 4294967295\n"),
     ("a sample of no seeds", "sample 0 a.pct", "0: sample takes a number from 1 to 10000\n"),
     ("a file in the place of a number of seeds", "sample a.pct", "a.pct: sample takes a number from 1 to 10000\n"),
+    ("a tally from the seed 0", "tally 0 5 a.pct", "0: a seed of tally is a number from 1 to 18446744073709551615\n"),
+    ("a tally whose last seed is less than the first", "tally 5 3 a.pct", "3: the last seed is less than the first\n"),
+    ("a tally of too many seeds", "tally 1 1000001 a.pct", "tally takes at most 1000000 seeds at once; sum adds tallies\n"),
+    ("a tally of one seed", "tally 1 a.pct", "a.pct: a seed of tally is a number from 1 to 18446744073709551615\n"),
+    ("an option of tally", "tally 1 2 --seed", "--seed: tally has no options\n"),
+    ("an option of sum", "sum --all", "--all: sum has no options\n"),
     ("a file in the place of a seed", "continue a.pct", "a.pct: continue takes a number from 0 to 18446744073709551615\n"),
     ("a word too many for a view", "trace a.pct a.pct 1 more", "more: a word too many for trace\n"),
 ]

@@ -128,6 +128,15 @@ explain_refusal() {
     fi
 }
 
+# Explains the refusal of the tallies of a file, or of several files: the line, which is of the files together, and the usual cause.
+explain_tallies() {
+    # A refusal is four words without patterns.
+    # shellcheck disable=SC2046
+    set -- $(repeat_answer "$@")
+    kind=$2 line=$3 why=$4 fault=$4
+    explain_line
+}
+
 # ---- words that are refused
 
 explain_words() {

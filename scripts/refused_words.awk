@@ -22,10 +22,12 @@ function on_command(command) {
     if (command ~ /^(replay|check|points|build)$/) return on_plain(command)
     if (command == "demo") return on_number("demo", 2, "0", "4294967295")
     if (command == "sample") return on_number("sample", 2, "1", "10000")
+    if (command == "tally") return on_tally()
+    if (command == "sum") return on_sum()
     if (command == "continue") return on_continue()
     if (command ~ /^(trace|choices|states|lanes|picture)$/) return on_view(command)
     if (command ~ /^--(version|help)$/) return too_many(command, 1)
-    if (tolower(command) ~ /^(run|replay|check|points|build|demo|sample|continue|trace|choices|states|lanes|picture)$/) return command ": commands are in lower case"
+    if (tolower(command) ~ /^(run|replay|check|points|build|demo|sample|continue|trace|choices|states|lanes|picture|tally|sum)$/) return command ": commands are in lower case"
     return command ": no such command"
 }
 
@@ -44,6 +46,21 @@ function on_continue(   i) {
     if (ARGC > 3 && ARGV[2] !~ /^[0-9]+$/) return ARGV[2] " is no SEED: \047./pct continue SEED FILE [PREFIX [N]]\047"
     for (i = 3; i < ARGC; i++) if (ARGV[i] ~ /^-[^0-9]/) return ARGV[i] " is no option of continue; it has none"
     return on_number("continue", 5, least["--seed"], largest["--seed"])
+}
+
+# The seeds of a tally: two numbers, of which the second is not less than the first, and less than 1000000 more.
+function on_tally(   i) {
+    for (i = 2; i <= 3; i++) {
+        if (ARGC <= i) return "tally: " (i == 2 ? "its first" : "its last") " seed is missing, 1 to " largest["--seed"]
+        if (!is_in(ARGV[i], "1", largest["--seed"])) return ARGV[i] ": a seed of tally is a number from 1 to " largest["--seed"]
+    }
+    if (ARGC > 4) return ARGV[4] ~ /^-/ ? ARGV[4] ": tally has no options" : too_many("tally", 4)
+    if (!is_in(ARGV[3], stripped(ARGV[2]), largest["--seed"])) return ARGV[3] ": the last seed is less than the first"
+    return "tally takes at most 1000000 seeds at once; sum adds tallies"
+}
+
+function on_sum() {
+    return ARGV[2] ": sum has no options"
 }
 
 # A command without options; FILE and PREFIX, if it has them, are not among the words.
@@ -80,10 +97,14 @@ function on_run(   i, option, value, sign, seen) {
     return ""
 }
 
+function stripped(value) {
+    sub(/^0+/, "", value)
+    return value == "" ? "0" : value
+}
+
 function is_in(value, low, high) {
     if (value !~ /^[0-9]+$/ || length(value) > 20) return 0
-    sub(/^0+/, "", value)
-    if (value == "") value = "0"
+    value = stripped(value)
     return !is_below(value, low) && !is_below(high, value)
 }
 

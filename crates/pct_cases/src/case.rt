@@ -93,7 +93,7 @@ impl Case {
         let mut sink = MemSink::new(alloc, 2_000_000, 1_000_000, &[])?;
         let status = match self.call {
             Call::Command => command(rt, alloc, &self.words, &mut source, &mut sink, &NoGate),
-            Call::Inspect => inspect(alloc, &self.words, &mut source, &mut sink),
+            Call::Inspect => inspect(rt, alloc, &self.words, &mut source, &mut sink),
         };
         let code = format!(in alloc; "{}", status.code())?;
         let is_expected = code.as_bytes() == self.code.as_slice()

@@ -8,9 +8,11 @@ use Rattle.pct_model.specs.declared.limits.TheConstants.{DEFAULT_BUDGET}
 use Rattle.pct_model.specs.declared.stop.Verdict.TheVariants as verdict
 use Rattle.pct_grammar.proofs.Scripts.{spelled_is_faultless, spells_one_script}
 use Rattle.pct_scheduled_run.proofs.OneSchedule.{seed_schedule_is_one}
-use Rattle.pct_sample.specs.declared.tally.Count.{Count}
-use Rattle.pct_sample.specs.declared.tally.StopCount.{StopCount}
-use Rattle.pct_sample.specs.declared.tally.Tally.{Tally}
+use Rattle.pct_tallies.specs.declared.count.Count.{Count}
+use Rattle.pct_tallies.specs.declared.count.StopCount.{StopCount}
+use Rattle.pct_tallies.specs.declared.seeds.Seeds.{Seeds}
+use Rattle.pct_tallies.specs.declared.tally.Tally.{Tally}
+use Rattle.pct_tallies.specs.Seeds.{first_seeds}
 use Rattle.pct_sample.specs.FirstSeeds.{AreFirstSeeds, EndsWith, IsFirstSeed}
 use Rattle.pct_sample.specs.SeedRuns.{config_of}
 use Rattle.pct_sample.proofs.SeedOptions.{seeds_are_options}
@@ -24,13 +26,13 @@ use Rattle.pct_command.proofs.OneOutcome.{by_job, by_run, fitting, found, Found,
 use Rattle.pct_command.proofs.OneAnswer.{seeded}
 
 -- the run of the first seed of a verdict has the verdict
-first_ends : (script : Script) (k : ℕ) (tally : Tally) (v : Verdict) (count : Count) → AreFirstSeeds script k tally → IsCountOf tally v count → count.runs ≢ 0 → EndsWith script v count.first
-first_ends script k tally verdict.Complete count first is some = (subst (λ (c : Count). IsFirstSeed script k verdict.Complete c) (sym is) first.complete).found some
-first_ends script k tally verdict.Deadlock count first is some = (subst (λ (c : Count). IsFirstSeed script k verdict.Deadlock c) (sym is) first.deadlock).found some
-first_ends script k tally verdict.Budget count first is some = (subst (λ (c : Count). IsFirstSeed script k verdict.Budget c) (sym is) first.budget).found some
-first_ends script k tally (verdict.Undefined why) count first is some =
-    (All-contains (λ (s : StopCount). IsFirstSeed script k (verdict.Undefined s.why) s.count) tally.stops (record { why = why; count = count }) first.stops is).found some
-first_ends script k tally verdict.Open count first is some = absurd is
+first_ends : (script : Script) (seeds : Seeds) (tally : Tally) (v : Verdict) (count : Count) → AreFirstSeeds script seeds tally → IsCountOf tally v count → count.runs ≢ 0 → EndsWith script v count.first
+first_ends script seeds tally verdict.Complete count first is some = (subst (λ (c : Count). IsFirstSeed script seeds verdict.Complete c) (sym is) first.complete).found some
+first_ends script seeds tally verdict.Deadlock count first is some = (subst (λ (c : Count). IsFirstSeed script seeds verdict.Deadlock c) (sym is) first.deadlock).found some
+first_ends script seeds tally verdict.Budget count first is some = (subst (λ (c : Count). IsFirstSeed script seeds verdict.Budget c) (sym is) first.budget).found some
+first_ends script seeds tally (verdict.Undefined why) count first is some =
+    (All-contains (λ (s : StopCount). IsFirstSeed script seeds (verdict.Undefined s.why) s.count) tally.stops (record { why = why; count = count }) first.stops is).found some
+first_ends script seeds tally verdict.Open count first is some = absurd is
 
 -- the code of a run is that of its verdict
 code_of_run : (script : Script) (config : Config) (entries : List Entry) (after : Run) (reported : Option (List ℕ)) (code : ℕ) (text : List ℕ)
@@ -86,5 +88,5 @@ module _ (seed input : List ℕ) (asked : run_options (words_of_seed seed) ≡ S
 pub first_seeds_reproduce : FirstSeedsReproduce
 first_seeds_reproduce words input code text sampled v count is some seed given value run_code reported a =
     let ends : EndsWith sampled.script v (digits_value 10 seed) =
-    subst (λ (n : ℕ). EndsWith sampled.script v n) (sym value) (first_ends sampled.script sampled.number sampled.tally v count sampled.first is some) in
+    subst (λ (n : ℕ). EndsWith sampled.script v n) (sym value) (first_ends sampled.script (first_seeds sampled.number) sampled.tally v count sampled.first is some) in
     code_answered seed input (seeds_are_options seed given) sampled.script v a.schedule run_code reported sampled.fits sampled.spelled ends a.is_report a.is_outcome

@@ -16,9 +16,10 @@ use Rattle.pct_command.specs.declared.words.Job.TheVariants as job
 use Rattle.pct_command.specs.Words.{Asks, HasInput, job_asked}
 use Rattle.pct_command.proofs.AskedWords.{has_input, names_job, job_needs_input, points_need_none, demo_needs_none, demo_is_no_points, none_asked, part_of_run, part_of_check, part_of_sample, sample_within}
 use Rattle.pct_demo.proofs.CountedRuns.{counted_is_one}
-use Rattle.pct_sample.specs.declared.tally.Tally.{Tally}
-use Rattle.pct_sample.specs.Tallies.{TallyOf}
-use Rattle.pct_sample.specs.TallyTexts.{tally_lines}
+use Rattle.pct_tallies.specs.declared.tally.Tally.{Tally}
+use Rattle.pct_tallies.specs.Seeds.{first_seeds}
+use Rattle.pct_sample.specs.Samples.{TallyOf}
+use Rattle.pct_tallies.specs.TallyTexts.{tally_lines}
 use Rattle.pct_sample.proofs.OneTally.{tallies_are_one}
 use Rattle.pct_command.specs.Command.{CommandOutcome, Other, Sampled, Samples}
 
@@ -201,8 +202,8 @@ pub samples_are_one : (words : List (List ℕ)) (input : List ℕ) (code other :
 samples_are_one words input code other text told a b =
     let number : a.number ≡ b.number = same_Some a.number b.number (sym a.accepted ∙ b.accepted) in
     let script = spells_one_script input a.script b.script a.spelled b.spelled in
-    let counted : TallyOf b.script b.number a.tally = subst (λ (s : Script). TallyOf s b.number a.tally) script (subst (λ (n : ℕ). TallyOf a.script n a.tally) number a.counted) in
-    let tally : a.tally ≡ b.tally = tallies_are_one b.script b.number a.tally b.tally counted b.counted in (
+    let counted : TallyOf b.script (first_seeds b.number) a.tally = subst (λ (s : Script). TallyOf s (first_seeds b.number) a.tally) script (subst (λ (n : ℕ). TallyOf a.script (first_seeds n) a.tally) number a.counted) in
+    let tally : a.tally ≡ b.tally = tallies_are_one b.script (first_seeds b.number) a.tally b.tally counted b.counted in (
       a.code_is ∙ sym b.code_is,
       a.text_is ∙ ap (λ (n : ℕ). text_of (tally_lines n a.tally)) number ∙ ap (λ (t : Tally). text_of (tally_lines b.number t)) tally ∙ sym b.text_is,
     )

@@ -13,10 +13,11 @@ use Rattle.pct_schedule_laws.proofs.ReadBack.{report_is_read_back}
 use Rattle.pct_grammar.proofs.Scripts.{spells_one_script}
 use Rattle.pct_engine.specs.EngineStates.{EngineValue, IsRunOf}
 use Rattle.pct_engine.proofs.EngineLaws.{keeps_laws}
-use Rattle.pct_sample.specs.declared.tally.Tally.{Tally}
+use Rattle.pct_tallies.specs.declared.tally.Tally.{Tally}
+use Rattle.pct_tallies.specs.Seeds.{first_seeds}
 use Rattle.pct_sample.specs.FirstSeeds.{AreFirstSeeds}
-use Rattle.pct_sample.specs.Tallies.{TallyOf}
-use Rattle.pct_sample.specs.TallyTexts.{tally_lines}
+use Rattle.pct_sample.specs.Samples.{TallyOf}
+use Rattle.pct_tallies.specs.TallyTexts.{tally_lines}
 use Rattle.pct_shared.specs.Schedules.{WorkersSchedule}
 use Rattle.pct_command.specs.declared.answers.Answer.TheVariants as answer
 use Rattle.pct_command.specs.declared.words.Job.{Job}
@@ -218,7 +219,7 @@ demo-answer words input number script engine asked generated ran =
 
 -- the tally of the runs of the script is the answer of `sample`
 pub sample-answer : (words : List (List ℕ)) (input : List ℕ) (seeds : ℕ) (script : Script) (tally : Tally)
-    → sample_number words ≡ Some seeds → HasScript words input script → TallyOf script seeds tally → AreFirstSeeds script seeds tally → IsAnswer words input 0 (text_of (tally_lines seeds tally))
+    → sample_number words ≡ Some seeds → HasScript words input script → TallyOf script (first_seeds seeds) tally → AreFirstSeeds script (first_seeds seeds) tally → IsAnswer words input 0 (text_of (tally_lines seeds tally))
 sample-answer words input seeds script tally asked has counted first = record {
   schedule = [];
   is_outcome = Sampled (record {

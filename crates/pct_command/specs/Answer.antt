@@ -16,7 +16,7 @@ use Rattle.pct_model.specs.Report.{report_of}
 use Rattle.pct_model.specs.Demo.{summary_of}
 use Rattle.pct_model.specs.Outcome.{needs_input, script_part, refused_words, refused_input, refused_script, refused_schedule, refused_entry}
 use Rattle.pct_engine.specs.EngineStates.{EngineValue}
-use Rattle.pct_sample.specs.TallyTexts.{tally_lines}
+use Rattle.pct_tallies.specs.TallyTexts.{tally_lines}
 use Rattle.pct_command.specs.declared.answers.Refusal.{Refusal}
 use Rattle.pct_command.specs.declared.answers.Refusal.TheVariants as refusal
 use Rattle.pct_command.specs.declared.answers.Answer.{Answer}

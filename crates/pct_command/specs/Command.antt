@@ -20,10 +20,11 @@ use Rattle.pct_model.specs.Run.{Run, first_illegal, run}
 use Rattle.pct_model.specs.RunOptions.{run_options}
 use Rattle.pct_model.specs.Sample.{sample_number}
 use Rattle.pct_model.specs.Outcome.{is_asked, is_accepted, script_part, schedule_part, Outcome}
-use Rattle.pct_sample.specs.declared.tally.Tally.{Tally}
+use Rattle.pct_tallies.specs.declared.tally.Tally.{Tally}
+use Rattle.pct_tallies.specs.Seeds.{first_seeds}
+use Rattle.pct_tallies.specs.TallyTexts.{tally_lines}
 use Rattle.pct_sample.specs.FirstSeeds.{AreFirstSeeds}
-use Rattle.pct_sample.specs.Tallies.{TallyOf}
-use Rattle.pct_sample.specs.TallyTexts.{tally_lines}
+use Rattle.pct_sample.specs.Samples.{TallyOf}
 use Rattle.pct_shared.specs.Schedules.{WorkersSchedule}
 use Rattle.pct_command.specs.declared.status.Status.{Status}
 use Rattle.pct_command.specs.declared.status.Status.TheVariants as status
@@ -55,8 +56,8 @@ pub record Samples (words : List (List ℕ)) (input : List ℕ) (code : ℕ) (te
   pub script : Script
   pub spelled : Spells input script
   pub tally : Tally
-  pub counted : TallyOf script number tally
-  pub first : AreFirstSeeds script number tally
+  pub counted : TallyOf script (first_seeds number) tally
+  pub first : AreFirstSeeds script (first_seeds number) tally
   pub code_is : code ≡ 0
   pub text_is : text ≡ text_of (tally_lines number tally)
 

@@ -8,8 +8,8 @@ use Rattle.pct_model.specs.declared.stop.Verdict.TheVariants as verdict
 use Rattle.pct_model.specs.Keywords.{keyword_text}
 use Rattle.pct_model.specs.Outcome.{code_of_verdict}
 use Rattle.pct_model.specs.RunOptions.{is_value, option_name}
-use Rattle.pct_sample.specs.declared.tally.Count.{Count}
-use Rattle.pct_sample.specs.declared.tally.Tally.{Tally}
+use Rattle.pct_tallies.specs.declared.count.Count.{Count}
+use Rattle.pct_tallies.specs.declared.tally.Tally.{Tally}
 use Rattle.pct_command.specs.Command.{IsAnswer, Samples}
 
 -- the count of the runs with this verdict in a tally

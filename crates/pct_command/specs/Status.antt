@@ -17,6 +17,7 @@ code_of status.TooLong = 8
 code_of status.ReadFault = 9
 code_of status.WriteFault = 10
 code_of status.NoMemory = 11
+code_of status.TallyRefused = 16
 
 -- the status of an answer: no call failed, and memory did not run out
 pub record IsAnswered (s : Status) : Type 0 where

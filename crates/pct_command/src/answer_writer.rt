@@ -14,7 +14,7 @@ use pct_io::{BufferedSink, Failed, Field, Sink, write_line};
 use pct_model::Keyword;
 use pct_printer::print;
 use pct_report::write_report;
-use pct_sample::write_tally;
+use pct_tallies::write_tally;
 
 /// Writes an answer: the line of a refusal, the report of a run, the canonical text of a script, the table of cancellation points,
 /// the summary of a run, or a tally of runs.

@@ -7,7 +7,7 @@ ghost use Rattle.pct_command.specs.Status.{IsAnswered};
 use crate::status::Status;
 use pct_engine::Engine;
 use pct_model::{ParseWhy, ScheduleWhy, Script};
-use pct_sample::Tally;
+use pct_tallies::Tally;
 
 /// Why an input is refused.
 #[derive(Clone, Copy, Debug, PartialEq, Eq)]

@@ -10,6 +10,7 @@ use pct_io::{Gate, NoMemory};
 use pct_model::Script;
 use pct_sample::sample;
 use pct_shared::Runtime;
+use pct_tallies::Seeds;
 use std::thread::Threads;
 
 /// The answer of `sample` with this number of seeds to a script. No gate is called.
@@ -21,6 +22,11 @@ pub(crate) fn sample_script<R: Threads + Sync, G: Gate>(
     requires { (1 ≤ seeds) × (seeds ≤ MAX_SEEDS) }
     ensures { (words : List (List ℕ)) (input : List ℕ) → sample_number words ≡ Asked seeds → HasScript words input script.now → Answered words input result }
 {
-    let tally = sample(runtime.rt, runtime.alloc, script, seeds)?;
+    let tally = sample(
+        runtime.rt,
+        runtime.alloc,
+        script,
+        Seeds::up_to(u64::from(seeds)),
+    )?;
     Ok(Answer::Sampled { seeds, tally })
 }

@@ -33,6 +33,8 @@ pub enum Status {
     WriteFault,
     /// 11: memory ran out.
     NoMemory,
+    /// 16: a tally is refused.
+    TallyRefused,
 }
 
 impl Status {
@@ -67,6 +69,7 @@ impl Status {
             Status::ReadFault => 9,
             Status::WriteFault => 10,
             Status::NoMemory => 11,
+            Status::TallyRefused => 16,
         }
     }
 }

@@ -14,7 +14,7 @@ fn main(rt: HostRuntime) -> ExitCode {
         Ok(words) => {
             let mut source = StdSource::new(rt.reader());
             let mut sink = StdSink::new(io::writer(&rt));
-            inspect(rt.alloc(), &words, &mut source, &mut sink)
+            inspect(&rt, rt.alloc(), &words, &mut source, &mut sink)
         }
     };
     ExitCode::from(status.code())

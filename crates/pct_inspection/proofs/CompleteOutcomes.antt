@@ -1,22 +1,30 @@
 -- The outcome of an input that is not refused, and the answer to all that a source had left.
-use Rattle.pct_names.proofs.Names.{◌<◌, ap, Appends, arith, code_of_verdict, Config, Entry, first_illegal, inr, length, List, None, Ok}
-use Rattle.pct_names.proofs.Names.{Option, refl, Run, same_Some, Script, Some, Spells, sym, true, Verdict, verdict_of, ℕ, ◌∙◌, ◌≡◌}
+use Rattle.pct_names.proofs.Names.{◌<◌, ap, Appends, arith, code_of_verdict, Config, Entry, false, first_illegal, FirstFault, inr, length, List, None, none-some, Ok}
+use Rattle.pct_names.proofs.Names.{Option, ParseWhy, refl, Run, same_Some, Script, Some, Spells, subst, sym, true, Verdict, verdict_of, ℕ, ◌∙◌, ◌≡◌, ◌≤◌}
 use Rattle.std.proofs.lemmas.Bool.{true≢false}
 use Rattle.pct_model.specs.declared.stop.Verdict.TheVariants as verdict
 use Rattle.pct_grammar.proofs.Scripts.{spells_one_script}
+use Rattle.pct_tallies.specs.declared.range_tally.PlacedTally.{PlacedTally}
+use Rattle.pct_tallies.specs.declared.range_tally.RangeTally.{RangeTally}
+use Rattle.pct_tallies.specs.declared.seeds.Seeds.{Seeds}
+use Rattle.pct_tallies.specs.Readings.{tallies_in}
+use Rattle.pct_tallies.specs.Totals.{IsTotalOf}
 use Rattle.pct_history.specs.Replays.{followed}
 use Rattle.pct_command.specs.Command.{Outside}
 use Rattle.pct_command.proofs.CompleteOutcomes.{given_or_fault, same_given, verdict_code}
 use Rattle.pct_command.proofs.Scripts.{spelled_or_fault}
 use Rattle.pct_inspection.specs.declared.answer.Answer.{Answer}
 use Rattle.pct_inspection.specs.declared.words.Form.TheVariants as form
+use Rattle.pct_inspection.specs.declared.words.Inspection.{Inspection}
 use Rattle.pct_inspection.specs.declared.words.Inspection.TheVariants as inspection
 use Rattle.pct_inspection.specs.declared.words.View.{View}
 use Rattle.pct_inspection.specs.declared.words.View.TheVariants as view
-use Rattle.pct_inspection.specs.Words.{inspection_asked, is_inspection}
-use Rattle.pct_inspection.specs.Inspection.{script_in, prefix_for, code_by, code_after, Continues, FollowsPrefix, IsCodeOfRun, IsInspected, IsValidPrefix, IsWhole}
+use Rattle.pct_inspection.specs.Words.{inspection_asked}
+use Rattle.pct_inspection.specs.Inspection.{script_in, prefix_for, code_by, code_after, follows_prefix, script_asked, Continues, FollowsPrefix, IsAcceptedCode, IsCodeOfRun, IsInspected, IsValidPrefix, IsWhole}
 use Rattle.pct_inspection.specs.Inspection as outcome
-use Rattle.pct_inspection.specs.Answer.{AnswersRead, status_of_answer, text_of_answer}
+use Rattle.pct_inspection.specs.Answer.{AnswersRead, AsksFor, code_of_answer, status_of_answer, text_of_answer}
+use Rattle.pct_inspection.proofs.Inputs.{follows_accepted, follows_script, is_accepted, kind, same_kind}
+use Rattle.pct_inspection.proofs.Totals.{ok_or_err, sum_or_refusal}
 
 -- ---- an input that is not refused
 
@@ -69,21 +77,77 @@ view_code words input code shown valid asked f code_is = record {
   closed = λ seed continued. absurd (shown_alone words shown seed asked continued);
 }
 
--- an input that is not refused has an outcome with the code of a run
-not_refused : (words : List (List ℕ)) (input : List ℕ) (code : ℕ) (text : List ℕ) → is_inspection words ≡ true → IsValidPrefix input → IsInspected words input code text → IsCodeOfRun words code
-not_refused words input code text accepted valid (outcome.WordsRefused refuses) = absurd (true≢false (sym accepted ∙ refuses.refused))
-not_refused words input code text accepted valid (outcome.InputRefused refuses) = absurd (omega (arith, valid.fits, refuses.too_long))
-not_refused words input code text accepted valid (outcome.ScriptRefused refuses) = absurd (spelled_or_fault _ valid.script refuses.line refuses.why valid.spelled refuses.first)
-not_refused words input code text accepted valid (outcome.PrefixRefused refuses) =
+-- a script that is spelled has no fault
+no_fault : (asked : Option Inspection) (input part : List ℕ) (script : Script) (text : List ℕ) (line : ℕ) (why : ParseWhy) → script_asked asked input ≡ Some text → Spells text script → script_asked asked input ≡ Some part → FirstFault part line why → ⊥
+no_fault asked input part script text line why is spelled of_part first =
+    let same : part ≡ text = same_Some part text (sym of_part ∙ is) in
+    spelled_or_fault text script line why spelled (subst (λ (p : List ℕ). FirstFault p line why) same first)
+
+-- ---- the code of a run
+
+-- with a valid prefix the outcome has the code of a run
+code_of_run : (words : List (List ℕ)) (input : List ℕ) (code : ℕ) (text : List ℕ) → follows_prefix (inspection_asked words) ≡ true → IsValidPrefix input → IsInspected words input code text → IsCodeOfRun words code
+code_of_run words input code text follows valid (outcome.WordsRefused refuses) = absurd (true≢false (sym (follows_accepted (inspection_asked words) follows) ∙ refuses.refused))
+code_of_run words input code text follows valid (outcome.InputRefused refuses) = absurd (omega (arith, valid.fits, refuses.too_long))
+code_of_run words input code text follows valid (outcome.ScriptRefused refuses) =
+    absurd (no_fault (inspection_asked words) input refuses.part valid.script (script_in input) refuses.line refuses.why (follows_script (inspection_asked words) input follows) valid.spelled refuses.asked refuses.first)
+code_of_run words input code text follows valid (outcome.PrefixRefused refuses) =
     let same_script : valid.script ≡ refuses.script = spells_one_script _ valid.script refuses.script valid.spelled refuses.spelled in
     absurd (given_or_fault (prefix_for valid.script input) (valid.config, valid.entries) (refuses.line, refuses.why) valid.read (ap (λ (s : Script). prefix_for s input) same_script ∙ refuses.first))
-not_refused words input code text accepted valid (outcome.Continued goes_on) =
+code_of_run words input code text follows valid (outcome.Continued goes_on) =
     let below : code < 4 = legal_code words input code text valid goes_on in
     record { run_code = omega (arith, below); closed = λ _ _. below }
-not_refused words input code text accepted valid (outcome.Traced traces) = view_code words input code (view.Steps form.Trace) valid traces.asked traces.prefix traces.code_is
-not_refused words input code text accepted valid (outcome.Listed lists) = view_code words input code view.Choices valid lists.asked lists.prefix lists.code_is
-not_refused words input code text accepted valid (outcome.Valued lists) = view_code words input code view.States valid lists.asked lists.prefix lists.code_is
-not_refused words input code text accepted valid (outcome.Drawn draws) = view_code words input code (view.Steps draws.shown) valid draws.asked draws.prefix draws.code_is
+code_of_run words input code text follows valid (outcome.Traced traces) = view_code words input code (view.Steps form.Trace) valid traces.asked traces.prefix traces.code_is
+code_of_run words input code text follows valid (outcome.Listed lists) = view_code words input code view.Choices valid lists.asked lists.prefix lists.code_is
+code_of_run words input code text follows valid (outcome.Valued lists) = view_code words input code view.States valid lists.asked lists.prefix lists.code_is
+code_of_run words input code text follows valid (outcome.Drawn draws) = view_code words input code (view.Steps draws.shown) valid draws.asked draws.prefix draws.code_is
+code_of_run words input code text follows valid (outcome.Tallied tallies) = absurd (true≢false (sym follows ∙ ap follows_prefix tallies.asked))
+code_of_run words input code text follows valid (outcome.TalliesRefused refuses) = absurd (true≢false (sym follows ∙ ap follows_prefix refuses.asked))
+code_of_run words input code text follows valid (outcome.SumRefused refuses) = absurd (true≢false (sym follows ∙ ap follows_prefix refuses.asked))
+code_of_run words input code text follows valid (outcome.Summed sums) = absurd (true≢false (sym follows ∙ ap follows_prefix sums.asked))
+
+-- ---- the code of a tally
+
+module _ (words : List (List ℕ)) (input : List ℕ) (fits : length input ≤ 16777216) where
+  -- words that ask for no run have no outcome of one
+  not_of_run : (asked other : Inspection) (code : ℕ) → AsksFor words asked → AsksFor words other → 1 < kind asked → kind other ≡ 1 → code ≡ 0
+  not_of_run asked other code is also above one = let same = same_kind words asked other is also in absurd (omega (arith, above, one, same))
+
+  not_followed : (asked : Inspection) (code : ℕ) → AsksFor words asked → follows_prefix (Some asked) ≡ false → follows_prefix (inspection_asked words) ≡ true → code ≡ 0
+  not_followed asked code is no_prefix follows = absurd (true≢false (sym follows ∙ ap follows_prefix is ∙ no_prefix))
+
+  tally_code : (seeds : Seeds) (script : Script) → AsksFor words (inspection.Tally seeds) → Spells input script → (code : ℕ) (text : List ℕ) → IsInspected words input code text → code ≡ 0
+  tally_code seeds script asked spelled code text (outcome.WordsRefused refuses) = absurd (true≢false (sym (is_accepted words (inspection.Tally seeds) asked) ∙ refuses.refused))
+  tally_code seeds script asked spelled code text (outcome.InputRefused refuses) = absurd (omega (arith, fits, refuses.too_long))
+  tally_code seeds script asked spelled code text (outcome.ScriptRefused refuses) =
+      absurd (no_fault (inspection_asked words) input refuses.part script input refuses.line refuses.why (ap (λ (o : Option Inspection). script_asked o input) asked) spelled refuses.asked refuses.first)
+  tally_code seeds script asked spelled code text (outcome.PrefixRefused refuses) = not_followed (inspection.Tally seeds) code asked refl refuses.accepted
+  tally_code seeds script asked spelled code text (outcome.Continued goes_on) = not_of_run (inspection.Tally seeds) (inspection.Continue goes_on.seed) code asked goes_on.asked (omega arith) refl
+  tally_code seeds script asked spelled code text (outcome.Traced traces) = not_of_run (inspection.Tally seeds) (inspection.Show (view.Steps form.Trace)) code asked traces.asked (omega arith) refl
+  tally_code seeds script asked spelled code text (outcome.Listed lists) = not_of_run (inspection.Tally seeds) (inspection.Show view.Choices) code asked lists.asked (omega arith) refl
+  tally_code seeds script asked spelled code text (outcome.Valued lists) = not_of_run (inspection.Tally seeds) (inspection.Show view.States) code asked lists.asked (omega arith) refl
+  tally_code seeds script asked spelled code text (outcome.Drawn draws) = not_of_run (inspection.Tally seeds) (inspection.Show (view.Steps draws.shown)) code asked draws.asked (omega arith) refl
+  tally_code seeds script asked spelled code text (outcome.Tallied tallies) = tallies.code_is
+  tally_code seeds script asked spelled code text (outcome.TalliesRefused refuses) = let same = same_kind words (inspection.Tally seeds) inspection.Sum asked refuses.asked in absurd (omega (arith, same))
+  tally_code seeds script asked spelled code text (outcome.SumRefused refuses) = let same = same_kind words (inspection.Tally seeds) inspection.Sum asked refuses.asked in absurd (omega (arith, same))
+  tally_code seeds script asked spelled code text (outcome.Summed sums) = sums.code_is
+
+  sum_code : (tallies : List PlacedTally) (total : RangeTally) → AsksFor words inspection.Sum → tallies_in input ≡ Ok tallies → IsTotalOf tallies (Ok total) → (code : ℕ) (text : List ℕ) → IsInspected words input code text → code ≡ 0
+  sum_code tallies total asked read summed code text (outcome.WordsRefused refuses) = absurd (true≢false (sym (is_accepted words inspection.Sum asked) ∙ refuses.refused))
+  sum_code tallies total asked read summed code text (outcome.InputRefused refuses) = absurd (omega (arith, fits, refuses.too_long))
+  sum_code tallies total asked read summed code text (outcome.ScriptRefused refuses) = absurd (none-some refuses.part (sym (ap (λ (o : Option Inspection). script_asked o input) asked) ∙ refuses.asked))
+  sum_code tallies total asked read summed code text (outcome.PrefixRefused refuses) = not_followed inspection.Sum code asked refl refuses.accepted
+  sum_code tallies total asked read summed code text (outcome.Continued goes_on) = not_of_run inspection.Sum (inspection.Continue goes_on.seed) code asked goes_on.asked (omega arith) refl
+  sum_code tallies total asked read summed code text (outcome.Traced traces) = not_of_run inspection.Sum (inspection.Show (view.Steps form.Trace)) code asked traces.asked (omega arith) refl
+  sum_code tallies total asked read summed code text (outcome.Listed lists) = not_of_run inspection.Sum (inspection.Show view.Choices) code asked lists.asked (omega arith) refl
+  sum_code tallies total asked read summed code text (outcome.Valued lists) = not_of_run inspection.Sum (inspection.Show view.States) code asked lists.asked (omega arith) refl
+  sum_code tallies total asked read summed code text (outcome.Drawn draws) = not_of_run inspection.Sum (inspection.Show (view.Steps draws.shown)) code asked draws.asked (omega arith) refl
+  sum_code tallies total asked read summed code text (outcome.Tallied counted) = counted.code_is
+  sum_code tallies total asked read summed code text (outcome.TalliesRefused refuses) =
+      absurd (ok_or_err (tallies_in input) tallies (refuses.line, refuses.why) read refuses.read)
+  sum_code tallies total asked read summed code text (outcome.SumRefused refuses) =
+      absurd (sum_or_refusal input tallies refuses.tallies total (refuses.line, refuses.why) read summed refuses.read refuses.refused)
+  sum_code tallies total asked read summed code text (outcome.Summed sums) = sums.code_is
 
 -- ---- all that a source had left
 
@@ -91,4 +155,9 @@ not_refused words input code text accepted valid (outcome.Drawn draws) = view_co
 pub complete : (words : List (List ℕ)) (before after : Outside) (a : Answer) → AnswersRead words before.left after.left a → Appends before.written after.written (text_of_answer a) → IsWhole words before after (status_of_answer a)
 complete words before after a read wrote = λ input has no_read_fault no_write_fault.
     let answer = read.of_all input has in
-    inr (record { text = text_of_answer a; answer = answer; wrote = wrote }, λ accepted valid. not_refused words input _ _ accepted valid answer)
+    let accepted : IsAcceptedCode words input (code_of_answer a) = record {
+      run = λ follows valid. code_of_run words input _ _ follows valid answer;
+      tally = λ seeds script asked fits spelled. tally_code words input fits seeds script asked spelled _ _ answer;
+      sum = λ tallies total asked fits read summed. sum_code words input fits tallies total asked read summed _ _ answer;
+    } in
+    inr (record { text = text_of_answer a; answer = answer; wrote = wrote }, accepted)

@@ -1,6 +1,10 @@
 mod Inputs
 mod Outcomes
+mod Totals
 mod CompleteOutcomes
 mod Views
 mod Selections
 mod OneInspection
+mod AskedSeeds
+mod Digests
+mod SumsOfTallies

@@ -1,7 +1,7 @@
 -- Words and an input have one outcome of an inspection at the most.
 use Rattle.pct_names.proofs.Names.{◌++◌, ap, Bool, code_of_verdict, Config, Entry, Err, false, Fault, first_fault, first_illegal, is_some, le-ltb, length, line_text, List}
-use Rattle.pct_names.proofs.Names.{nat_lt, None, none-some, Ok, Option, option_map, refl, refused_input, refused_schedule, refused_script, refused_words, report}
-use Rattle.pct_names.proofs.Names.{Run, run, same_Some, Schedule, Script, Some, some_pair_parts, Spells, subst, sym, true, verdict_of, ℕ, ◌∙◌, ◌≡◌, ◌≤◌}
+use Rattle.pct_names.proofs.Names.{nat_lt, None, none-some, Ok, Option, option_and_then, option_map, refl, refused_input, refused_schedule, refused_script, refused_words, report, Result}
+use Rattle.pct_names.proofs.Names.{Run, run, same_Some, Schedule, Script, Some, some_pair_parts, Spells, subst, sym, text_of, true, verdict_of, ℕ, ◌∙◌, ◌≡◌, ◌≤◌}
 use Rattle.std.proofs.lemmas.Bool.{lt-ltb, true≢false}
 use Rattle.pct_grammar.proofs.Scripts.{spelled_is_faultless, spells_one_script}
 use Rattle.pct_script.specs.StatementLines.{statement_lines}
@@ -11,16 +11,26 @@ use Rattle.pct_history.specs.Replays.{followed}
 use Rattle.pct_view_texts.specs.Choices.{choices_text}
 use Rattle.pct_view_texts.specs.States.{states_text}
 use Rattle.pct_view_texts.specs.Trace.{trace_text}
+use Rattle.pct_tallies.specs.declared.range_tally.RangeTally.{RangeTally}
+use Rattle.pct_tallies.specs.declared.seeds.Seeds.{Seeds}
+use Rattle.pct_tallies.specs.Faults.{Fault as Refusal}
+use Rattle.pct_tallies.specs.TallyTexts.{range_lines}
+use Rattle.pct_sample.specs.Samples.{TallyOf}
+use Rattle.pct_sample.proofs.OneTally.{tallies_are_one}
 use Rattle.pct_command.specs.SeedSchedule.{SeedContinuation}
 use Rattle.pct_command.proofs.CompleteOutcomes.{same_given}
 use Rattle.pct_inspection.specs.declared.words.Form.{Form}
 use Rattle.pct_inspection.specs.declared.words.Form.TheVariants as form
 use Rattle.pct_inspection.specs.declared.words.Inspection.{Inspection}
 use Rattle.pct_inspection.specs.declared.words.Inspection.TheVariants as inspection
+use Rattle.pct_inspection.specs.declared.words.View.{View}
 use Rattle.pct_inspection.specs.declared.words.View.TheVariants as view
 use Rattle.pct_inspection.specs.Words.{inspection_asked, is_inspection}
-use Rattle.pct_inspection.specs.Inspection.{script_in, prefix_for, notice, code_by, asks_to_draw, Continues, FollowsPrefix, InspectionsAreOne, IsInspected, code_after, entries_in, is_drawn}
+use Rattle.pct_inspection.specs.TallyOutcomes.{IsTotalIn, NotRead, refused_tally, subject_of, Tallies, Totalled}
+use Rattle.pct_inspection.specs.Inspection.{script_in, prefix_for, notice, code_by, asks_to_draw, follows_prefix, script_asked, Continues, FollowsPrefix, InspectionsAreOne, IsInspected, code_after, entries_in, is_drawn}
 use Rattle.pct_inspection.specs.Inspection as outcome
+use Rattle.pct_inspection.proofs.Inputs.{follows_script, script_accepted}
+use Rattle.pct_inspection.proofs.Totals.{totals_in_are_one}
 
 -- ---- the code and the text, by the order of the checks
 
@@ -30,8 +40,12 @@ by_checks false too_long fault = Some (5, line_text refused_words)
 by_checks true true fault = Some (8, line_text refused_input)
 by_checks true false fault = option_map (λ f. (6, line_text (refused_script f.0 f.1))) fault
 
+-- the first fault of the script that is asked for, if there is one
+abbrev pub fault_asked : Option Inspection → List ℕ → Option Fault
+fault_asked asked input = option_and_then first_fault (script_asked asked input)
+
 abbrev pub refused_of : List (List ℕ) → List ℕ → Option (ℕ × List ℕ)
-refused_of words input = by_checks (is_inspection words) (nat_lt 16777216 (length input)) (first_fault (script_in input))
+refused_of words input = by_checks (is_inspection words) (nat_lt 16777216 (length input)) (fault_asked (inspection_asked words) input)
 
 -- the code after the run of the entries that are followed
 abbrev pub code_of_run : Script → Config → List Entry → Option ℕ → Option Run → Option ℕ
@@ -70,34 +84,60 @@ record GoesOn (script : Script) (seed : ℕ) (given : Config × List Entry) (cod
   told_is : report script given.0 schedule ≡ Some told
   text_is : text ≡ told ++ notice (first_illegal script given.0 given.1)
 
+-- the sum of tallies, or the line of their fault
+abbrev told_of : Result RangeTally Refusal → ℕ × List ℕ
+told_of (Ok total) = (0, text_of (range_lines total))
+told_of (Err fault) = (16, line_text (refused_tally fault.0 fault.1))
+
 module _ (words : List (List ℕ)) (input : List ℕ) where
   -- what is shown of a script
   abbrev shown : Script → Option (ℕ × List ℕ)
   shown script = shown_of (inspection_asked words) input script (prefix_for script input)
 
+  -- nothing is refused, and the words ask to follow a prefix or they do not
+  record IsAnswered (follows : Bool) : Type 0 where
+    none : refused_of words input ≡ None
+    asks : follows_prefix (inspection_asked words) ≡ follows
+
   -- the code and the text are these
   data Found (code : ℕ) (text : List ℕ) : Type 0 where
     Refused : refused_of words input ≡ Some (code, text) → Found code text
-    Shown : refused_of words input ≡ None → (script : Script) → Spells (script_in input) script → shown script ≡ Some (code, text) → Found code text
-    Drew : refused_of words input ≡ None → (script : Script) → Spells (script_in input) script → shown script ≡ None → drawn_of script (prefix_for script input) ≡ Some code → asks_to_draw (inspection_asked words) ≡ true → Found code text
-    WentOn : refused_of words input ≡ None → (script : Script) → Spells (script_in input) script → shown script ≡ None → (seed : ℕ) → inspection_asked words ≡ Some (inspection.Continue seed)
+    Shown : IsAnswered true → (script : Script) → Spells (script_in input) script → shown script ≡ Some (code, text) → Found code text
+    Drew : IsAnswered true → (script : Script) → Spells (script_in input) script → shown script ≡ None → drawn_of script (prefix_for script input) ≡ Some code → asks_to_draw (inspection_asked words) ≡ true → Found code text
+    WentOn : IsAnswered true → (script : Script) → Spells (script_in input) script → shown script ≡ None → (seed : ℕ) → inspection_asked words ≡ Some (inspection.Continue seed)
         → (given : Config × List Entry) → prefix_for script input ≡ Ok given → GoesOn script seed given code text → Found code text
+    Counted : IsAnswered false → Tallies words input code text → Found code text
+    Added : IsAnswered false → inspection_asked words ≡ Some inspection.Sum → (total : Result RangeTally Refusal) → IsTotalIn input total → told_of total ≡ (code, text) → Found code text
 
   -- ---- every outcome is found
 
   -- the checks of words and an input
-  checked : (accepted too_long : Bool) (fault : Option Fault) → is_inspection words ≡ accepted → nat_lt 16777216 (length input) ≡ too_long → first_fault (script_in input) ≡ fault → refused_of words input ≡ by_checks accepted too_long fault
+  checked : (accepted too_long : Bool) (fault : Option Fault) → is_inspection words ≡ accepted → nat_lt 16777216 (length input) ≡ too_long → fault_asked (inspection_asked words) input ≡ fault → refused_of words input ≡ by_checks accepted too_long fault
   checked accepted too_long fault words_are fits first =
-      ap (λ (b : Bool). by_checks b (nat_lt 16777216 (length input)) (first_fault (script_in input))) words_are
-      ∙ ap (λ (b : Bool). by_checks accepted b (first_fault (script_in input))) fits
+      ap (λ (b : Bool). by_checks b (nat_lt 16777216 (length input)) (fault_asked (inspection_asked words) input)) words_are
+      ∙ ap (λ (b : Bool). by_checks accepted b (fault_asked (inspection_asked words) input)) fits
       ∙ ap (λ (f : Option Fault). by_checks accepted too_long f) first
 
   these : {code c : ℕ} {text t : List ℕ} → code ≡ c → text ≡ t → ◌≡◌ {A = Option (ℕ × List ℕ)} (Some (c, t)) (Some (code, text))
   these {c = c} {text = text} {t = t} code_is text_is = sym (ap (λ (x : ℕ). Some (x, text)) code_is ∙ ap (λ (x : List ℕ). Some (c, x)) text_is)
 
+  -- no refusal of a script that is spelled
+  none_of : (part : List ℕ) (script : Script) → script_asked (inspection_asked words) input ≡ Some part → length input ≤ 16777216 → Spells part script → refused_of words input ≡ None
+  none_of part script of_part fits spelled =
+      checked true false None (script_accepted (inspection_asked words) input part of_part) (le-ltb 16777216 (length input) fits) (ap (option_and_then first_fault) of_part ∙ spelled_is_faultless part script spelled)
+
   -- no refusal comes before a run
-  none_refused : (script : Script) (asked : Inspection) → inspection_asked words ≡ Some asked → length input ≤ 16777216 → Spells (script_in input) script → refused_of words input ≡ None
-  none_refused script asked is fits spelled = checked true false None (ap (λ (o : Option Inspection). is_some o) is) (le-ltb 16777216 (length input) fits) (spelled_is_faultless (script_in input) script spelled)
+  none_refused : (script : Script) (asked : Inspection) → inspection_asked words ≡ Some asked → follows_prefix (Some asked) ≡ true → length input ≤ 16777216 → Spells (script_in input) script → IsAnswered true
+  none_refused script asked is prefix fits spelled =
+      let follows : follows_prefix (inspection_asked words) ≡ true = ap follows_prefix is ∙ prefix in
+      record { none = none_of (script_in input) script (follows_script (inspection_asked words) input follows) fits spelled; asks = follows }
+
+  -- none comes before a sum
+  none_before_sum : inspection_asked words ≡ Some inspection.Sum → length input ≤ 16777216 → IsAnswered false
+  none_before_sum is fits = record {
+    none = checked true false None (ap (λ (o : Option Inspection). is_some o) is) (le-ltb 16777216 (length input) fits) (ap (λ (o : Option Inspection). fault_asked o input) is);
+    asks = ap follows_prefix is;
+  }
 
   -- what is shown of words and a prefix that are known
   shown_as : (script : Script) (asked : Inspection) (config : Config) (entries : List Entry) (illegal : Option ℕ) (after : Option Run) → inspection_asked words ≡ Some asked → prefix_for script input ≡ Ok (config, entries)
@@ -110,10 +150,10 @@ module _ (words : List (List ℕ)) (input : List ℕ) where
 
   module _ (code : ℕ) (text : List ℕ) where
     -- a view that is no drawing
-    viewed : (asked : Inspection) → inspection_asked words ≡ Some asked → (prefix : FollowsPrefix input) (t : List ℕ) → code ≡ code_after prefix → by_view (Some asked) input prefix.script prefix.config (entries_in prefix) prefix.after ≡ Some t → text ≡ t ++ notice prefix.illegal → Found code text
-    viewed asked is prefix t code_is view_is text_is =
-        Shown (none_refused prefix.script asked is prefix.fits prefix.spelled) prefix.script prefix.spelled
-        (shown_as prefix.script asked prefix.config prefix.entries prefix.illegal (Some prefix.after) is prefix.read prefix.illegal_is prefix.is_run
+    viewed : (v : View) → inspection_asked words ≡ Some (inspection.Show v) → (prefix : FollowsPrefix input) (t : List ℕ) → code ≡ code_after prefix → by_view (Some (inspection.Show v)) input prefix.script prefix.config (entries_in prefix) prefix.after ≡ Some t → text ≡ t ++ notice prefix.illegal → Found code text
+    viewed v is prefix t code_is view_is text_is =
+        Shown (none_refused prefix.script (inspection.Show v) is refl prefix.fits prefix.spelled) prefix.script prefix.spelled
+        (shown_as prefix.script (inspection.Show v) prefix.config prefix.entries prefix.illegal (Some prefix.after) is prefix.read prefix.illegal_is prefix.is_run
         ∙ ap (option_map (λ (s : List ℕ). (code_after prefix, s ++ notice prefix.illegal))) view_is ∙ these code_is text_is)
 
     -- the code of a drawing is that after the run
@@ -126,12 +166,12 @@ module _ (words : List (List ℕ)) (input : List ℕ) where
     drew : (f : Form) → is_drawn f ≡ true → inspection_asked words ≡ Some (inspection.Show (view.Steps f)) → (prefix : FollowsPrefix input) → code ≡ code_after prefix → Found code text
     drew form.Trace drawn is prefix code_is = absurd (true≢false (sym drawn))
     drew form.Lanes drawn is prefix code_is = Drew
-        (none_refused prefix.script (inspection.Show (view.Steps form.Lanes)) is prefix.fits prefix.spelled) prefix.script prefix.spelled
+        (none_refused prefix.script (inspection.Show (view.Steps form.Lanes)) is refl prefix.fits prefix.spelled) prefix.script prefix.spelled
         (shown_as prefix.script (inspection.Show (view.Steps form.Lanes)) prefix.config prefix.entries prefix.illegal (Some prefix.after) is prefix.read prefix.illegal_is prefix.is_run)
         (drawn_as prefix ∙ ap (λ (n : ℕ). Some n) (sym code_is))
         (ap asks_to_draw is)
     drew form.Picture drawn is prefix code_is = Drew
-        (none_refused prefix.script (inspection.Show (view.Steps form.Picture)) is prefix.fits prefix.spelled) prefix.script prefix.spelled
+        (none_refused prefix.script (inspection.Show (view.Steps form.Picture)) is refl prefix.fits prefix.spelled) prefix.script prefix.spelled
         (shown_as prefix.script (inspection.Show (view.Steps form.Picture)) prefix.config prefix.entries prefix.illegal (Some prefix.after) is prefix.read prefix.illegal_is prefix.is_run)
         (drawn_as prefix ∙ ap (λ (n : ℕ). Some n) (sym code_is))
         (ap asks_to_draw is)
@@ -143,7 +183,7 @@ module _ (words : List (List ℕ)) (input : List ℕ) where
 
     -- a run that goes on
     went_on : Continues words input code text → Found code text
-    went_on c = WentOn (none_refused c.script (inspection.Continue c.seed) c.asked c.fits c.spelled) c.script c.spelled
+    went_on c = WentOn (none_refused c.script (inspection.Continue c.seed) c.asked refl c.fits c.spelled) c.script c.spelled
         (ap (λ (o : Option Inspection). shown_of o input c.script (prefix_for c.script input)) c.asked
         ∙ ap (λ (s : Schedule). shown_of (Some (inspection.Continue c.seed)) input c.script s) c.read
         ∙ none_shown c.script c.config c.entries c.seed (first_illegal c.script c.config c.entries) (run c.script c.config (followed (first_illegal c.script c.config c.entries) c.entries)))
@@ -159,20 +199,39 @@ module _ (words : List (List ℕ)) (input : List ℕ) where
           text_is = c.text_is ∙ ap (λ (n : Option ℕ). c.report_text ++ notice n) (sym c.illegal_is);
         })
 
+    -- the tally of a script
+    counted : Tallies words input code text → Found code text
+    counted t = Counted (record { none = none_of input t.script (ap (λ (o : Option Inspection). script_asked o input) t.asked) t.fits t.spelled; asks = ap follows_prefix t.asked }) t
+
+    -- the sum of tallies, or their fault
+    added : inspection_asked words ≡ Some inspection.Sum → length input ≤ 16777216 → (total : Result RangeTally Refusal) → IsTotalIn input total → code ≡ (told_of total).0 → text ≡ (told_of total).1 → Found code text
+    added is fits total summed code_is text_is = Added (none_before_sum is fits) is total summed (λ i. (sym code_is i, sym text_is i))
+
     found : IsInspected words input code text → Found code text
-    found (outcome.WordsRefused o) = Refused (checked false (nat_lt 16777216 (length input)) (first_fault (script_in input)) o.refused refl refl ∙ these o.code_is o.text_is)
-    found (outcome.InputRefused o) = Refused (checked true true (first_fault (script_in input)) o.accepted (lt-ltb 16777216 (length input) o.too_long) refl ∙ these o.code_is o.text_is)
-    found (outcome.ScriptRefused o) = Refused (checked true false (Some (o.line, o.why)) o.accepted (le-ltb 16777216 (length input) o.fits) o.first ∙ these o.code_is o.text_is)
+    found (outcome.WordsRefused o) = Refused (checked false (nat_lt 16777216 (length input)) (fault_asked (inspection_asked words) input) o.refused refl refl ∙ these o.code_is o.text_is)
+    found (outcome.InputRefused o) = Refused (checked true true (fault_asked (inspection_asked words) input) o.accepted (lt-ltb 16777216 (length input) o.too_long) refl ∙ these o.code_is o.text_is)
+    found (outcome.ScriptRefused o) = Refused
+        (checked true false (Some (o.line, o.why)) (script_accepted (inspection_asked words) input o.part o.asked) (le-ltb 16777216 (length input) o.fits) (ap (option_and_then first_fault) o.asked ∙ o.first)
+        ∙ these o.code_is o.text_is)
     found (outcome.PrefixRefused o) = Shown
-        (checked true false None o.accepted (le-ltb 16777216 (length input) o.fits) (spelled_is_faultless (script_in input) o.script o.spelled)) o.script o.spelled
+        (record { none = none_of (script_in input) o.script (follows_script (inspection_asked words) input o.accepted) o.fits o.spelled; asks = o.accepted }) o.script o.spelled
         (ap (λ (s : Schedule). shown_of (inspection_asked words) input o.script s) o.first ∙ these o.code_is o.text_is)
     found (outcome.Continued o) = went_on o
-    found (outcome.Traced o) = viewed (inspection.Show (view.Steps form.Trace)) o.asked o.prefix _ o.code_is refl o.text_is
-    found (outcome.Listed o) = viewed (inspection.Show view.Choices) o.asked o.prefix _ o.code_is refl o.text_is
-    found (outcome.Valued o) = viewed (inspection.Show view.States) o.asked o.prefix _ o.code_is refl o.text_is
+    found (outcome.Traced o) = viewed (view.Steps form.Trace) o.asked o.prefix _ o.code_is refl o.text_is
+    found (outcome.Listed o) = viewed view.Choices o.asked o.prefix _ o.code_is refl o.text_is
+    found (outcome.Valued o) = viewed view.States o.asked o.prefix _ o.code_is refl o.text_is
     found (outcome.Drawn o) = drew o.shown o.drawn o.asked o.prefix o.code_is
+    found (outcome.Tallied o) = counted o
+    found (outcome.TalliesRefused o) = added o.asked o.fits (Err (o.line, o.why)) (NotRead (o.line, o.why) o.read refl) o.code_is o.text_is
+    found (outcome.SumRefused o) = added o.asked o.fits (Err (o.line, o.why)) (Totalled o.tallies o.read o.refused) o.code_is o.text_is
+    found (outcome.Summed o) = added o.asked o.fits (Ok o.total) (Totalled o.tallies o.read o.summed) o.code_is o.text_is
 
 -- ---- and only one
+
+-- the seeds of words that ask for a tally
+abbrev tally_seeds : Seeds → Option Inspection → Seeds
+tally_seeds other (Some (inspection.Tally seeds)) = seeds
+tally_seeds other _ = other
 
 -- the seed of words that ask to continue
 abbrev seed_in : Option Inspection → ℕ
@@ -207,14 +266,59 @@ module _ (words : List (List ℕ)) (input : List ℕ) (code other : ℕ) (text t
   no_drawing : (seed : ℕ) → asks_to_draw (inspection_asked words) ≡ true → inspection_asked words ≡ Some (inspection.Continue seed) → ⊥
   no_drawing seed drawn is = true≢false (sym drawn ∙ ap asks_to_draw is)
 
+  -- the words ask to follow a prefix, or they do not
+  asks_for_both : IsAnswered words input true → IsAnswered words input false → ⊥
+  asks_for_both one other = true≢false (sym one.asks ∙ other.asks)
+
+  -- what is refused has no answer
+  refused_or_not : {c : ℕ} {t : List ℕ} {follows : Bool} → refused_of words input ≡ Some (c, t) → IsAnswered words input follows → ⊥
+  refused_or_not {c = c} {t = t} is answered = none-some (c, t) (sym answered.none ∙ is)
+
+  -- one script has one tally under the seeds that are asked for
+  counted_once : Tallies words input code text → Tallies words input other told → (code ≡ other) × (text ≡ told)
+  counted_once a b =
+      let seeds : a.seeds ≡ b.seeds = ap (tally_seeds b.seeds) (sym a.asked ∙ b.asked) in
+      let script : a.script ≡ b.script = spells_one_script input a.script b.script a.spelled b.spelled in
+      let counted : TallyOf b.script b.seeds a.tally = subst (λ (s : Script). TallyOf s b.seeds a.tally) script (subst (λ (s : Seeds). TallyOf a.script s a.tally) seeds a.counted) in
+      let tally : a.tally ≡ b.tally = tallies_are_one b.script b.seeds a.tally b.tally counted b.counted in (
+        a.code_is ∙ sym b.code_is,
+        a.text_is ∙ (λ i. text_of (range_lines (record { seeds = seeds i; subject = subject_of (script i); tally = tally i }))) ∙ sym b.text_is,
+      )
+
+  -- words ask for a tally or for a sum
+  tally_or_sum : (seeds : Seeds) → inspection_asked words ≡ Some (inspection.Tally seeds) → inspection_asked words ≡ Some inspection.Sum → ⊥
+  tally_or_sum seeds tally sum = absurd cc
+
   found_once : Found words input code text → Found words input other told → Same
   found_once (Refused a) (Refused b) = whole (some_pair_parts code other text told (sym a ∙ b))
-  found_once (Refused a) (Shown none _ _ _) = absurd (none-some (code, text) (sym none ∙ a))
-  found_once (Refused a) (Drew none _ _ _ _ _) = absurd (none-some (code, text) (sym none ∙ a))
-  found_once (Refused a) (WentOn none _ _ _ _ _ _ _ _) = absurd (none-some (code, text) (sym none ∙ a))
-  found_once (Shown none _ _ _) (Refused b) = absurd (none-some (other, told) (sym none ∙ b))
-  found_once (Drew none _ _ _ _ _) (Refused b) = absurd (none-some (other, told) (sym none ∙ b))
-  found_once (WentOn none _ _ _ _ _ _ _ _) (Refused b) = absurd (none-some (other, told) (sym none ∙ b))
+  found_once (Refused a) (Shown answered _ _ _) = absurd (refused_or_not a answered)
+  found_once (Refused a) (Drew answered _ _ _ _ _) = absurd (refused_or_not a answered)
+  found_once (Refused a) (WentOn answered _ _ _ _ _ _ _ _) = absurd (refused_or_not a answered)
+  found_once (Refused a) (Counted answered _) = absurd (refused_or_not a answered)
+  found_once (Refused a) (Added answered _ _ _ _) = absurd (refused_or_not a answered)
+  found_once (Shown answered _ _ _) (Refused b) = absurd (refused_or_not b answered)
+  found_once (Drew answered _ _ _ _ _) (Refused b) = absurd (refused_or_not b answered)
+  found_once (WentOn answered _ _ _ _ _ _ _ _) (Refused b) = absurd (refused_or_not b answered)
+  found_once (Counted answered _) (Refused b) = absurd (refused_or_not b answered)
+  found_once (Added answered _ _ _ _) (Refused b) = absurd (refused_or_not b answered)
+  found_once (Shown answered _ _ _) (Counted none _) = absurd (asks_for_both answered none)
+  found_once (Shown answered _ _ _) (Added none _ _ _ _) = absurd (asks_for_both answered none)
+  found_once (Drew answered _ _ _ _ _) (Counted none _) = absurd (asks_for_both answered none)
+  found_once (Drew answered _ _ _ _ _) (Added none _ _ _ _) = absurd (asks_for_both answered none)
+  found_once (WentOn answered _ _ _ _ _ _ _ _) (Counted none _) = absurd (asks_for_both answered none)
+  found_once (WentOn answered _ _ _ _ _ _ _ _) (Added none _ _ _ _) = absurd (asks_for_both answered none)
+  found_once (Counted none _) (Shown answered _ _ _) = absurd (asks_for_both answered none)
+  found_once (Added none _ _ _ _) (Shown answered _ _ _) = absurd (asks_for_both answered none)
+  found_once (Counted none _) (Drew answered _ _ _ _ _) = absurd (asks_for_both answered none)
+  found_once (Added none _ _ _ _) (Drew answered _ _ _ _ _) = absurd (asks_for_both answered none)
+  found_once (Counted none _) (WentOn answered _ _ _ _ _ _ _ _) = absurd (asks_for_both answered none)
+  found_once (Added none _ _ _ _) (WentOn answered _ _ _ _ _ _ _ _) = absurd (asks_for_both answered none)
+  found_once (Counted _ a) (Counted _ b) = whole (counted_once a b)
+  found_once (Counted _ a) (Added _ sum _ _ _) = absurd (tally_or_sum a.seeds a.asked sum)
+  found_once (Added _ sum _ _ _) (Counted _ b) = absurd (tally_or_sum b.seeds b.asked sum)
+  found_once (Added _ _ one a is) (Added _ _ also b same) =
+      let both : (code, text) ≡ (other, told) = sym is ∙ ap told_of (totals_in_are_one input one also a b) ∙ same in
+      whole (ap (λ (p : ℕ × List ℕ). p.0) both, ap (λ (p : ℕ × List ℕ). p.1) both)
   found_once (Shown _ one spells a) (Shown _ also spelled b) = whole (some_pair_parts code other text told (sym a ∙ ap (shown words input) (spells_one_script (script_in input) one also spells spelled) ∙ b))
   found_once (Shown _ one spells a) (Drew _ also spelled b _ _) = absurd (disagree one also spells spelled a b)
   found_once (Shown _ one spells a) (WentOn _ also spelled b _ _ _ _ _) = absurd (disagree one also spells spelled a b)

@@ -1,20 +1,31 @@
 -- What is answered is an outcome.
 use Rattle.pct_names.proofs.Names.{◌<◌, ap, code_of_verdict, Config, Entry, Err, false, first_illegal, FirstFault, length, line_text, List}
 use Rattle.pct_names.proofs.Names.{None, Ok, Option, ParseWhy, refl, refused_input, refused_schedule, refused_script, refused_words, Run}
-use Rattle.pct_names.proofs.Names.{ScheduleWhy, Script, Some, subst, sym, verdict_of, ℕ, ◌∙◌, ◌≡◌, ◌≤◌}
+use Rattle.pct_names.proofs.Names.{ScheduleWhy, Script, Some, Spells, subst, sym, text_of, true, verdict_of, ℕ, ◌∙◌, ◌≡◌, ◌≤◌}
 use Rattle.pct_engine.specs.EngineStates.{EngineValue, IsRunOf}
 use Rattle.pct_engine.proofs.EngineLaws.{keeps_laws}
 use Rattle.pct_history.specs.Replays.{followed, Follows}
 use Rattle.pct_command.specs.SeedSchedule.{SeedContinuation}
 use Rattle.pct_command.specs.Answer.{text_of_run}
 use Rattle.pct_command.proofs.Outcomes.{read-back, run-code, run-report}
+use Rattle.pct_sample.specs.FirstSeeds.{AreFirstSeeds}
+use Rattle.pct_sample.specs.Samples.{TallyOf}
+use Rattle.pct_tallies.specs.declared.fault.TallyWhy.{TallyWhy}
+use Rattle.pct_tallies.specs.declared.range_tally.RangeTally.{RangeTally}
+use Rattle.pct_tallies.specs.declared.range_tally.Subject.{Subject}
+use Rattle.pct_tallies.specs.declared.seeds.Seeds.{Seeds}
+use Rattle.pct_tallies.specs.declared.tally.Tally.{Tally}
+use Rattle.pct_tallies.specs.TallyTexts.{range_lines}
 use Rattle.pct_inspection.specs.declared.answer.Answer.TheVariants as answer
 use Rattle.pct_inspection.specs.declared.words.Inspection.{Inspection}
+use Rattle.pct_inspection.specs.declared.words.Inspection.TheVariants as inspection
 use Rattle.pct_inspection.specs.Words.{is_inspection}
-use Rattle.pct_inspection.specs.Inspection.{script_in, prefix_for, code_by, IsInspected}
+use Rattle.pct_inspection.specs.Inspection.{prefix_for, code_by, follows_prefix, script_asked, IsInspected}
 use Rattle.pct_inspection.specs.Inspection as outcome
+use Rattle.pct_inspection.specs.TallyOutcomes.{IsTotalIn, NotRead, refused_tally, subject_of, Totalled}
 use Rattle.pct_inspection.specs.Answer.{code_of_answer, text_of_answer, AsksFor, AsksToContinue, HasScript}
 use Rattle.pct_inspection.proofs.Inputs.{is_accepted}
+use Rattle.pct_inspection.proofs.Totals.{same_err}
 
 -- ---- runs
 
@@ -77,11 +88,45 @@ words-answer words input refused = outcome.WordsRefused (record { refused = refu
 pub input-answer : (words : List (List ℕ)) (input : List ℕ) (what : Inspection) → AsksFor words what → 16777216 < length input → IsInspected words input 8 (line_text refused_input)
 input-answer words input what asked too_long = outcome.InputRefused (record { accepted = is_accepted words what asked; too_long = too_long; code_is = refl; text_is = refl })
 
-pub script-answer : (words : List (List ℕ)) (input : List ℕ) (what : Inspection) (line : ℕ) (why : ParseWhy) → AsksFor words what → length input ≤ 16777216 → FirstFault (script_in input) line why → IsInspected words input 6 (line_text (refused_script line why))
-script-answer words input what line why asked fits first =
-    outcome.ScriptRefused (record { accepted = is_accepted words what asked; fits = fits; line = line; why = why; first = first; code_is = refl; text_is = refl })
+pub script-answer : (words : List (List ℕ)) (input part : List ℕ) (what : Inspection) (line : ℕ) (why : ParseWhy) → AsksFor words what → script_asked (Some what) input ≡ Some part → length input ≤ 16777216 → FirstFault part line why → IsInspected words input 6 (line_text (refused_script line why))
+script-answer words input part what line why asked of_part fits first =
+    outcome.ScriptRefused (record { part = part; asked = ap (λ (o : Option Inspection). script_asked o input) asked ∙ of_part; fits = fits; line = line; why = why; first = first; code_is = refl; text_is = refl })
 
-pub prefix-answer : (words : List (List ℕ)) (input : List ℕ) (what : Inspection) (script : Script) (line : ℕ) (why : ScheduleWhy) → AsksFor words what → HasScript input script
+pub prefix-answer : (words : List (List ℕ)) (input : List ℕ) (what : Inspection) (script : Script) (line : ℕ) (why : ScheduleWhy) → AsksFor words what → follows_prefix (Some what) ≡ true → HasScript input script
     → prefix_for script input ≡ Err (line, why) → IsInspected words input 7 (line_text (refused_schedule line why))
-prefix-answer words input what script line why asked has first =
-    outcome.PrefixRefused (record { accepted = is_accepted words what asked; fits = has.fits; script = script; spelled = has.spelled; line = line; why = why; first = first; code_is = refl; text_is = refl })
+prefix-answer words input what script line why asked follows has first =
+    outcome.PrefixRefused (record { accepted = ap follows_prefix asked ∙ follows; fits = has.fits; script = script; spelled = has.spelled; line = line; why = why; first = first; code_is = refl; text_is = refl })
+
+-- ---- tallies
+
+-- the tally of the runs of the script
+pub tally-answer : (words : List (List ℕ)) (input : List ℕ) (seeds : Seeds) (script : Script) (subject : Subject) (tally : Tally)
+    → AsksFor words (inspection.Tally seeds) → length input ≤ 16777216 → Spells input script → subject ≡ subject_of script → TallyOf script seeds tally → AreFirstSeeds script seeds tally
+    → IsInspected words input 0 (text_of (range_lines (record { seeds = seeds; subject = subject; tally = tally })))
+tally-answer words input seeds script subject tally asked fits spelled of_script counted first =
+    outcome.Tallied (record {
+      seeds = seeds;
+      asked = asked;
+      fits = fits;
+      script = script;
+      spelled = spelled;
+      tally = tally;
+      counted = counted;
+      first = first;
+      code_is = refl;
+      text_is = ap (λ (s : Subject). text_of (range_lines (record { seeds = seeds; subject = s; tally = tally }))) of_script;
+    })
+
+-- the sum of the tallies in an input
+pub sum-answer : (words : List (List ℕ)) (input : List ℕ) (total : RangeTally) → AsksFor words inspection.Sum → length input ≤ 16777216 → IsTotalIn input (Ok total) → IsInspected words input 0 (text_of (range_lines total))
+sum-answer words input total asked fits (NotRead fault read is) = absurd cc
+sum-answer words input total asked fits (Totalled tallies read summed) =
+    outcome.Summed (record { asked = asked; fits = fits; tallies = tallies; read = read; total = total; summed = summed; code_is = refl; text_is = refl })
+
+-- tallies without a sum, or an input that is not only tallies
+pub sum_refusal-answer : (words : List (List ℕ)) (input : List ℕ) (line : ℕ) (why : TallyWhy) → AsksFor words inspection.Sum → length input ≤ 16777216 → IsTotalIn input (Err (line, why)) → IsInspected words input 16 (line_text (refused_tally line why))
+sum_refusal-answer words input line why asked fits (NotRead fault read is) =
+    let same : fault ≡ (line, why) = same_err {X = RangeTally} (Err (line, why)) fault (line, why) is refl in
+    outcome.TalliesRefused (record { asked = asked; fits = fits; line = line; why = why; read = read ∙ ap Err same; code_is = refl; text_is = refl })
+sum_refusal-answer words input line why asked fits (Totalled tallies read refused) =
+    outcome.SumRefused (record { asked = asked; fits = fits; tallies = tallies; read = read; line = line; why = why; refused = refused; code_is = refl; text_is = refl })

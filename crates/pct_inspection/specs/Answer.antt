@@ -4,7 +4,8 @@ use Rattle.std.specs.Io.KnownBytes.{Consumes}
 use Rattle.pct_io.specs.ErrorCounts.{Rose}
 use Rattle.pct_model.specs.declared.limits.TheConstants.{MAX_INPUT}
 use Rattle.pct_model.specs.declared.script.Script.{Script}
-use Rattle.pct_model.specs.Keywords.{line_text}
+use Rattle.pct_model.specs.Keywords.{line_text, text_of}
+use Rattle.pct_tallies.specs.TallyTexts.{range_lines}
 use Rattle.pct_model.specs.Spells.{Spells}
 use Rattle.pct_command.specs.declared.status.Status.{Status}
 use Rattle.pct_command.specs.declared.status.Status.TheVariants as status
@@ -19,6 +20,7 @@ use Rattle.pct_inspection.specs.declared.words.Inspection.{Inspection}
 use Rattle.pct_inspection.specs.declared.words.Inspection.TheVariants as inspection
 use Rattle.pct_inspection.specs.Words.{inspection_asked, is_inspection}
 use Rattle.pct_inspection.specs.Inspection.{script_in, prefix_in, notice, IsInspected}
+use Rattle.pct_inspection.specs.TallyOutcomes.{refused_tally}
 
 -- ---- the status and the text of an answer
 
@@ -32,16 +34,20 @@ abbrev pub status_of_answer : Answer → Status
 status_of_answer (answer.Refused why) = status_of_refusal why
 status_of_answer (answer.Continued engine illegal) = status_by illegal (status_of_verdict (verdict_of_run engine))
 status_of_answer (answer.Shown text v illegal) = status_by illegal (status_of_verdict v)
+status_of_answer (answer.Tallied range) = status.Complete
+status_of_answer (answer.TallyRefused line why) = status.TallyRefused
 
 -- the code of an answer
 abbrev pub code_of_answer : Answer → ℕ
 code_of_answer a = code_of (status_of_answer a)
 
--- the text of an answer: the line of a refusal, the report of a run and the notice after it, or a view
+-- the text of an answer: the line of a refusal, the report of a run and the notice after it, a view, or a tally
 abbrev pub text_of_answer : Answer → List ℕ
 text_of_answer (answer.Refused why) = line_text (line_of_refusal why)
 text_of_answer (answer.Continued engine illegal) = text_of_run engine ++ notice illegal
 text_of_answer (answer.Shown text v illegal) = text.items
+text_of_answer (answer.Tallied range) = text_of (range_lines range)
+text_of_answer (answer.TallyRefused line why) = line_text (refused_tally line why)
 
 -- ---- the answer to a text
 

@@ -38,6 +38,12 @@ use Rattle.pct_inspection.specs.declared.words.Inspection.TheVariants as inspect
 use Rattle.pct_inspection.specs.declared.words.Form.{Form}
 use Rattle.pct_inspection.specs.declared.words.Form.TheVariants as form
 use Rattle.pct_inspection.specs.declared.words.View.TheVariants as view
+use Rattle.pct_tallies.specs.declared.range_tally.PlacedTally.{PlacedTally}
+use Rattle.pct_tallies.specs.declared.range_tally.RangeTally.{RangeTally}
+use Rattle.pct_tallies.specs.declared.seeds.Seeds.{Seeds}
+use Rattle.pct_tallies.specs.Readings.{tallies_in}
+use Rattle.pct_tallies.specs.Totals.{IsTotalOf}
+use Rattle.pct_inspection.specs.TallyOutcomes.{RefusesSum, RefusesTallies, Sums, Tallies}
 use Rattle.pct_inspection.specs.Words.{inspection_asked, is_inspection}
 
 -- ---- the input
@@ -54,6 +60,22 @@ prefix_in input = drop (replay_parts input).1 input
 -- default configuration with the format of the script
 abbrev pub prefix_for : Script → List ℕ → Schedule
 prefix_for script input = prefix_of (format_of script) (prefix_in input)
+
+-- the words ask to follow a prefix
+abbrev pub follows_prefix : Option Inspection → Bool
+follows_prefix (Some (inspection.Continue seed)) = true
+follows_prefix (Some (inspection.Show shown)) = true
+follows_prefix (Some (inspection.Tally seeds)) = false
+follows_prefix (Some inspection.Sum) = false
+follows_prefix None = false
+
+-- the text of the script that the words ask for something of: the part before the line `%%`, and with `tally` the whole input. None with `sum`
+abbrev pub script_asked : Option Inspection → List ℕ → Option (List ℕ)
+script_asked (Some (inspection.Continue seed)) input = Some (script_in input)
+script_asked (Some (inspection.Show shown)) input = Some (script_in input)
+script_asked (Some (inspection.Tally seeds)) input = Some input
+script_asked (Some inspection.Sum) input = None
+script_asked None input = None
 
 -- ---- what is written
 
@@ -84,17 +106,18 @@ pub record RefusesInput (words : List (List ℕ)) (input : List ℕ) (code : ℕ
 
 -- a script with a fault: the first one is reported
 pub record RefusesScript (words : List (List ℕ)) (input : List ℕ) (code : ℕ) (text : List ℕ) : Type 0 where
-  pub accepted : is_inspection words ≡ true
+  pub part : List ℕ
+  pub asked : script_asked (inspection_asked words) input ≡ Some part
   pub fits : length input ≤ MAX_INPUT
   pub line : ℕ
   pub why : ParseWhy
-  pub first : FirstFault (script_in input) line why
+  pub first : FirstFault part line why
   pub code_is : code ≡ 6
   pub text_is : text ≡ line_text (refused_script line why)
 
 -- a prefix with a fault: the first one is reported
 pub record RefusesPrefix (words : List (List ℕ)) (input : List ℕ) (code : ℕ) (text : List ℕ) : Type 0 where
-  pub accepted : is_inspection words ≡ true
+  pub accepted : follows_prefix (inspection_asked words) ≡ true
   pub fits : length input ≤ MAX_INPUT
   pub script : Script
   pub spelled : Spells (script_in input) script
@@ -207,6 +230,10 @@ pub data IsInspected (words : List (List ℕ)) (input : List ℕ) (code : ℕ) (
   Listed : ListsChoices words input code text → IsInspected words input code text
   Valued : ListsStates words input code text → IsInspected words input code text
   Drawn : Draws words input code → IsInspected words input code text
+  Tallied : Tallies words input code text → IsInspected words input code text
+  TalliesRefused : RefusesTallies words input code text → IsInspected words input code text
+  SumRefused : RefusesSum words input code text → IsInspected words input code text
+  Summed : Sums words input code text → IsInspected words input code text
 
 -- ---- completeness
 
@@ -225,13 +252,20 @@ pub record IsCodeOfRun (words : List (List ℕ)) (code : ℕ) : Type 0 where
   pub run_code : code < 5
   pub closed : (seed : ℕ) → inspection_asked words ≡ Some (inspection.Continue seed) → code < 4
 
+-- the code of an input that is not refused: that of a run; and 0 with `tally` if the input spells a script, and with `sum` if it is tallies with a sum
+pub record IsAcceptedCode (words : List (List ℕ)) (input : List ℕ) (code : ℕ) : Type 0 where
+  pub run : follows_prefix (inspection_asked words) ≡ true → IsValidPrefix input → IsCodeOfRun words code
+  pub tally : (seeds : Seeds) (script : Script) → inspection_asked words ≡ Some (inspection.Tally seeds) → length input ≤ MAX_INPUT → Spells input script → code ≡ 0
+  pub sum : (tallies : List PlacedTally) (total : RangeTally) → inspection_asked words ≡ Some inspection.Sum → length input ≤ MAX_INPUT
+      → tallies_in input ≡ Ok tallies → IsTotalOf tallies (Ok total) → code ≡ 0
+
 -- if the source reports its bytes and no call failed, the outcome of all that it had left was written whole, or memory ran out;
 -- with accepted words a valid input is not refused
 abbrev pub IsWhole : List (List ℕ) → Outside → Outside → Status → Type 0
 IsWhole words before after s =
     (input : List ℕ) → before.left ≡ Some input
     → s ≢ status.ReadFault → s ≢ status.WriteFault
-    → (s ≡ status.NoMemory) ⊎ (WroteAll (IsInspected words) input before.written after.written (code_of s) × (is_inspection words ≡ true → IsValidPrefix input → IsCodeOfRun words (code_of s)))
+    → (s ≡ status.NoMemory) ⊎ (WroteAll (IsInspected words) input before.written after.written (code_of s) × IsAcceptedCode words input (code_of s))
 
 -- ---- uniqueness
 

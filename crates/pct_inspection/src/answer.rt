@@ -1,4 +1,4 @@
-//! The answers: a refusal, a run, or a view of a run.
+//! The answers: a refusal, a run, a view of a run, or a tally.
 
 ghost use Rattle.std.specs.Prelude.{◌≡◌};
 ghost use Rattle.pct_command.specs.Status.{IsAnswered};
@@ -8,6 +8,7 @@ ghost use Rattle.pct_inspection.specs.Answer.{status_by, status_of_answer};
 use pct_command::{Refusal, Status};
 use pct_engine::Engine;
 use pct_model::Verdict;
+use pct_tallies::{RangeTally, TallyWhy};
 
 /// What is written.
 #[derive(Drop)]
@@ -25,6 +26,13 @@ pub(crate) enum Answer {
         text: Vec<u8>,
         verdict: Verdict,
         illegal: Option<u32>,
+    },
+    /// What is counted of the runs under the seeds of a range.
+    Tallied(RangeTally),
+    /// One line that names the reason why tallies have no sum: the line of the input, counted from 1, and why.
+    TallyRefused {
+        line: u32,
+        why: TallyWhy,
     },
 }
 
@@ -51,6 +59,8 @@ impl Answer {
                 illegal,
                 ..
             } => status_by(*illegal, *verdict),
+            Answer::Tallied(_) => Status::Complete,
+            Answer::TallyRefused { .. } => Status::TallyRefused,
         }
     }
 }

@@ -2,9 +2,11 @@
 
 ghost use Rattle.std.specs.Prelude.{◌++◌};
 ghost use Rattle.pct_io.specs.Writes.{Writes};
+ghost use Rattle.pct_model.specs.Keywords.{line_text};
 ghost use Rattle.pct_command.specs.Answer.{text_of_run};
 ghost use Rattle.pct_inspection.specs.Answer.{text_of_answer};
 ghost use Rattle.pct_inspection.specs.Inspection.{notice};
+ghost use Rattle.pct_inspection.specs.TallyOutcomes.{refused_tally};
 
 use crate::answer::Answer;
 use pct_command::write_refusal;
@@ -12,8 +14,9 @@ use pct_engine::Engine;
 use pct_io::{Failed, Field, Sink, write_all, write_line};
 use pct_model::Keyword;
 use pct_report::write_report;
+use pct_tallies::{TallyWhy, write_range_tally};
 
-/// Writes an answer: the line of a refusal, the report of a run and the notice after it, or a view.
+/// Writes an answer: the line of a refusal, the report of a run and the notice after it, a view, or a tally.
 pub(crate) fn write_answer<K: Sink>(answer: &Answer, sink: &mut K) -> Result<(), Failed>
     ensures { Writes K.written K.errors K.inners sink.old sink.new (text_of_answer answer.now) result }
 {
@@ -21,6 +24,8 @@ pub(crate) fn write_answer<K: Sink>(answer: &Answer, sink: &mut K) -> Result<(),
         Answer::Refused(refusal) => write_refusal(*refusal, sink),
         Answer::Continued { engine, illegal } => write_continued(engine, *illegal, sink),
         Answer::Shown { text, .. } => write_all(sink, text),
+        Answer::Tallied(range) => write_range_tally(range, sink),
+        Answer::TallyRefused { line, why } => write_tally_refusal(*line, *why, sink),
     }
 }
 
@@ -34,6 +39,22 @@ fn write_continued<K: Sink>(
 {
     write_report(engine, sink)?;
     write_notice(illegal, sink)
+}
+
+// Writes the line that names the reason why tallies have no sum.
+#[tactic(auto, unfolding(crate::specs::TallyOutcomes::refused_tally))]
+fn write_tally_refusal<K: Sink>(line: u32, why: TallyWhy, sink: &mut K) -> Result<(), Failed>
+    ensures { Writes K.written K.errors K.inners sink.old sink.new (line_text (refused_tally line why)) result }
+{
+    write_line(
+        sink,
+        &[
+            Field::Text(Keyword::Refused.text()),
+            Field::Text(b"tally"),
+            Field::Number(line),
+            Field::Text(why.text()),
+        ],
+    )
 }
 
 /// Writes the line that names an entry which is not legal, if there is one.

@@ -5,24 +5,27 @@ ghost use Rattle.pct_io.specs.Inners.{KeepsInners};
 ghost use Rattle.pct_command.specs.Command.{Answers, HasRead, Records};
 ghost use Rattle.pct_inspection.specs.Answer.{AnswersRead, AsksFor, ReadsInput};
 ghost use Rattle.pct_inspection.specs.Inspection.{IsInspected, IsWhole};
+ghost use Rattle.pct_inspection.specs.TallyOutcomes.{IsAccepted};
 ghost use Rattle.pct_inspection.specs.Words.{is_inspection};
 
 use crate::answer::{Answer, Unanswered};
 use crate::answer_writer::write_answer;
 use crate::answering::answer_input;
+use crate::resources::Resources;
 use crate::words::{Inspection, read_inspection, selection_in};
 use pct_command::{Refusal, Status};
 use pct_io::{Failed, NoMemory, ReadEnd, Sink, Source, read_all};
 use pct_lanes::Selection;
 use pct_model::MAX_INPUT;
 use std::alloc::Global;
+use std::thread::Threads;
 
 /// Does what the words ask for on the bytes of the source, and writes the answer to the sink.
 ///
-/// The words are `continue` and a seed, or one of `trace`, `choices`, `states`, `lanes` and `picture`. The input is a script, a line `%%`, and
-/// a prefix of a schedule: a schedule or a whole report, in which the line `end N` may be missing. Without a line `%%`, or with nothing after it, the
-/// prefix has no entry, and the numbers of the run are those of `run` without options. The run makes the steps of the prefix, up to the first
-/// entry that is not legal.
+/// The words are `continue` and a seed, one of `trace`, `choices`, `states`, `lanes` and `picture`, `tally` and two seeds, or `sum`. With `tally` the
+/// input is a script, and with `sum` it is tallies. With the others it is a script, a line `%%`, and a prefix of a schedule: a schedule or a whole
+/// report, in which the line `end N` may be missing. Without a line `%%`, or with nothing after it, the prefix has no entry, and the numbers of the
+/// run are those of `run` without options. The run makes the steps of the prefix, up to the first entry that is not legal.
 ///
 /// - `continue`: worker 1 makes each further step, as two words of its random stream choose under the seed, until the verdict is not `Open`.
 ///   The report is written.
@@ -34,14 +37,21 @@ use std::alloc::Global;
 ///   not ended, its frames with their locals, its thread-specific data, and whether it is detached.
 /// - `lanes`, `picture`: the steps are written with a column for each thread, as text or as SVG. After the command words may select steps:
 ///   `--steps FROM-TO`, `--threads P.T,P.T..` and `--events`.
+/// - `tally`: the script is run as `run --seed S` does under each seed S from the first to the second. It is written how many of the runs ended in
+///   which way, with the first seed of each, and the digest of the script. The runs are spread over threads, if threads can be made; the answer does
+///   not depend on that.
+/// - `sum`: the sum of the tallies is written, if they are of one script and their ranges together have each seed from the first to the last once.
 ///
-/// After it, if entry N of the prefix is not legal, a line `entry N is not legal here` is written. A refusal is one line that names the reason.
+/// After a report or a view, if entry N of the prefix is not legal, a line `entry N is not legal here` is written. A refusal is one line that names
+/// the reason.
 ///
 /// The answer is the first of these that holds, unless it is `ReadFault`, `WriteFault` or `NoMemory`:
 ///
 /// - `Usage`: the words are not accepted; nothing is read.
 /// - `TooLong`: more than 16,777,216 bytes were read.
 /// - `ScriptRefused`: the text of the script has a fault.
+/// - `TallyRefused`: the input of `sum` has a line that is none of a tally, or the tallies have no sum.
+/// - `Complete`, from `tally` and `sum`: the tally was written, whatever the verdicts of its runs are.
 /// - `ScheduleRefused`: the text of the prefix has a fault, or one of its entries is not legal; then the report or the view, and the notice,
 ///   were written.
 /// - `Complete`, `Deadlock`, `Budget`, `Undefined` or, of a view, `Open`: the report or the view of a run with this verdict was written.
@@ -51,7 +61,8 @@ use std::alloc::Global;
 /// - `ReadFault` comes only with accepted words, and only if the source recorded an error in this call. The sink is unchanged.
 /// - `WriteFault` comes only if the sink recorded an error in this call. A prefix of the text was written.
 /// - `NoMemory` comes only with accepted words. The sink is unchanged.
-pub fn inspect<S: Source, K: Sink>(
+pub fn inspect<R: Threads + Sync, S: Source, K: Sink>(
+    rt: &R,
     alloc: Global,
     words: &[String],
     source: &mut S,
@@ -84,7 +95,8 @@ pub fn inspect<S: Source, K: Sink>(
     // The sink still writes through the same sinks, and each of them has only grown.
     ensures inners { KeepsInners (K.inners sink.old) (K.inners sink.new) }
 {
-    match answer_words(alloc, words, source) {
+    let resources = Resources { rt, alloc };
+    match answer_words(&resources, words, source) {
         Ok(answer) => match write_answer(&answer, sink) {
             Ok(()) => answer.status(),
             Err(Failed) => Status::WriteFault,
@@ -95,8 +107,8 @@ pub fn inspect<S: Source, K: Sink>(
 }
 
 // The answer to the words, and to the bytes of the source if the words are accepted.
-fn answer_words<S: Source>(
-    alloc: Global,
+fn answer_words<R: Threads + Sync, S: Source>(
+    resources: &Resources<'_, R>,
     words: &[String],
     source: &mut S,
 ) -> Result<Answer, Unanswered>
@@ -107,22 +119,23 @@ fn answer_words<S: Source>(
 {
     match read_inspection(words) {
         None => Ok(Answer::Refused(Refusal::Words)),
-        Some(asked) => answer_read(alloc, asked, selection_in(words), source),
+        Some(asked) => answer_read(resources, asked, selection_in(words), source),
     }
 }
 
 // The answer to the bytes of the source.
-fn answer_read<S: Source>(
-    alloc: Global,
+fn answer_read<R: Threads + Sync, S: Source>(
+    resources: &Resources<'_, R>,
     asked: Inspection,
     selection: Selection,
     source: &mut S,
 ) -> Result<Answer, Unanswered>
+    requires accepted { IsAccepted asked }
     ensures answer { (words : List (List ℕ)) → AsksFor words asked → IfOk result (λ answer. AnswersRead words (S.left source.old) (S.left source.new) answer) }
     ensures reads { ReadsInput S.left S.errors source.old source.new result }
 {
-    match read_all(alloc, source, MAX_INPUT) {
-        Ok(text) => match answer_input(alloc, asked, selection, &text) {
+    match read_all(resources.alloc, source, MAX_INPUT) {
+        Ok(text) => match answer_input(resources, asked, selection, &text) {
             Ok(answer) => Ok(answer),
             Err(NoMemory) => Err(Unanswered::NoMemory),
         },

@@ -1,5 +1,6 @@
 //! The program that inspects runs: `inspect` reads words and an input. `continue` goes on with a run that begins with the entries
 //! of a given prefix of a schedule, as a seed chooses. `trace`, `choices`, `states`, `lanes` and `picture` show the run of these entries.
+//! `tally` counts how the runs of a script under the seeds of a range end, and `sum` adds such tallies.
 #![tactic(auto)]
 
 mod answer;
@@ -8,10 +9,13 @@ mod answering;
 mod continuing;
 mod inspecting;
 mod law;
+mod resources;
 mod selecting;
 mod showing;
+mod tallying;
 mod words;
 
 pub use inspecting::inspect;
-pub use law::inspections_are_one;
+pub use law::{inspections_are_one, sums_are_tallies};
+pub use pct_tallies::Seeds;
 pub use words::{Form, Inspection, View, read_inspection};

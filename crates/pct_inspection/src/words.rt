@@ -1,11 +1,12 @@
 //! The words after the program's name.
 
 ghost use Rattle.std.specs.Prelude.{◌≡◌, map, string_bytes};
-ghost use Rattle.pct_inspection.specs.Words.{continuation_asked, inspection_asked, view_asked, view_named};
+ghost use Rattle.pct_inspection.specs.Words.{continuation_asked, inspection_asked, is_tallied, seeds_asked, sum_asked, tally_asked, view_asked, view_named};
 
 use crate::selecting::read_selection;
 use pct_lanes::Selection;
 use pct_options::read_seed;
+use pct_tallies::{MAX_TALLIED, Seeds};
 
 /// A form in which the steps of a run are shown.
 #[derive(Clone, Copy)]
@@ -36,10 +37,15 @@ pub enum Inspection {
     Continue(u64),
     /// Write a view of a run.
     Show(View),
+    /// Run the script under each seed of a range, and write what is counted of the runs.
+    Tally(Seeds),
+    /// Write the sum of tallies.
+    Sum,
 }
 
-/// What the words ask for: `trace`, `choices` or `states` alone; `lanes` or `picture` and a selection; or `continue` and a seed, which is
-/// 1 to 20 digits. It is `None` with all other words. It allocates no memory.
+/// What the words ask for: `trace`, `choices`, `states` or `sum` alone; `lanes` or `picture` and a selection; `continue` and a seed, which is
+/// 1 to 20 digits; or `tally` and two seeds, which are not 0, of which the second is not less than the first, and which are less than 1,000,000
+/// apart. It is `None` with all other words. It allocates no memory.
 #[tactic(auto, unfolding(crate::specs::Words::inspection_asked))]
 pub fn read_inspection(words: &[String]) -> Option<Inspection>
     ensures { result ≡ inspection_asked (map string_bytes words.now) }
@@ -47,6 +53,10 @@ pub fn read_inspection(words: &[String]) -> Option<Inspection>
     let (command, rest) = words.split_first()?;
     if command.as_bytes() == b"continue".as_slice() {
         continuation_asked(rest)
+    } else if command.as_bytes() == b"tally".as_slice() {
+        tally_asked(rest)
+    } else if command.as_bytes() == b"sum".as_slice() {
+        sum_asked(rest)
     } else {
         view_asked(rest, view_named(command.as_bytes())?)
     }
@@ -59,6 +69,46 @@ fn continuation_asked(words: &[String]) -> Option<Inspection>
     match words {
         [seed] => Some(Inspection::Continue(read_seed(seed.as_str())?)),
         _ => None,
+    }
+}
+
+// The tally of the range of the two seeds that are the only words.
+fn tally_asked(words: &[String]) -> Option<Inspection>
+    ensures { result ≡ tally_asked (map string_bytes words.now) }
+{
+    match words {
+        [first, last] => Some(Inspection::Tally(seeds_asked(first.as_str(), last.as_str())?)),
+        _ => None,
+    }
+}
+
+// The range from one seed to another, if a tally is made for it.
+#[tactic(auto, unfolding(crate::specs::Words::seeds_asked))]
+fn seeds_asked(first: &str, last: &str) -> Option<Seeds>
+    ensures { result ≡ seeds_asked first.now last.now }
+{
+    let seeds = Seeds {
+        first: read_seed(first)?,
+        last: read_seed(last)?,
+    };
+    if is_tallied(seeds) { Some(seeds) } else { None }
+}
+
+// Whether a tally is made for a range.
+fn is_tallied(seeds: Seeds) -> bool
+    ensures { result ≡ is_tallied seeds }
+{
+    seeds.is_range() && seeds.last - seeds.first < MAX_TALLIED
+}
+
+// The sum, if there are no more words.
+fn sum_asked(words: &[String]) -> Option<Inspection>
+    ensures { result ≡ sum_asked (map string_bytes words.now) }
+{
+    if words.is_empty() {
+        Some(Inspection::Sum)
+    } else {
+        None
     }
 }
 

@@ -18,7 +18,7 @@ use std::marker::Model;
 #[derive(Drop)]
 pub struct AllReadySets {
     sets: Vec<ReadySets>,
-    // Whether there was a look at any slot.
+    // Whether anything may be known of a slot.
     looked: bool,
 }
 

@@ -71,8 +71,8 @@ fn has_choice(around: Surroundings, process: &ProcessState, slot: u32) -> bool
     has_choice_on(around, process, slot)
 }
 
-// Whether a condition holds. It stands apart for the same reason.
-#[inline(never)]
+// Whether a condition holds.
+#[inline(always)]
 fn is_met(around: Surroundings, process: &ProcessState, when: ReadyWhen) -> bool
     ensures { (tid : ℕ) → result ≡ is_met process.now.shared (environment_in (has_timeouts around.entry.program.now.config.format) (length process.now.slots) (other_processes around.entry.family) process.now.slots tid) when }
 {

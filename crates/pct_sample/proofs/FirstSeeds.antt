@@ -1,8 +1,8 @@
 -- The first seed that a count names is the least one whose run has the verdict.
-use Rattle.std.proofs.Common.{ℕ, ◌≡◌, ◌≢◌, true, false, List, map, slice_index_or, ap, sym, subst, arith, length, ◌∙◌, inl, inr}
+use Rattle.std.proofs.Common.{ℕ, ◌≤◌, ◌≡◌, ◌≢◌, true, false, List, map, slice_index_or, ap, sym, subst, arith, length, ◌∙◌, inl, inr}
 use Rattle.std.proofs.lemmas.Bool.{cases_order, false≢true}
 use Rattle.std.proofs.lemmas.List.Elements.{All-filter, All-map}
-use Rattle.std.specs.List.{All, AllZip, range_with_len}
+use Rattle.std.specs.List.{All, AllZip}
 use Rattle.pct_names.proofs.Names.{same_Some}
 use Rattle.pct_model.specs.declared.limits.TheConstants.{DEFAULT_BUDGET}
 use Rattle.pct_model.specs.declared.schedule.Entry.{Entry}
@@ -12,14 +12,17 @@ use Rattle.pct_model.specs.declared.stop.Verdict.{Verdict}
 use Rattle.pct_model.specs.declared.stop.Verdict.TheVariants as verdict
 use Rattle.pct_model.specs.Run.{Run, run, verdict_of}
 use Rattle.pct_scheduled_run.proofs.OneSchedule.{seed_schedule_is_one}
-use Rattle.pct_sample.specs.declared.seed_run.SeedRun.{SeedRun}
-use Rattle.pct_sample.specs.declared.tally.StopCount.{StopCount}
-use Rattle.pct_sample.specs.declared.tally.Tally.{Tally}
+use Rattle.pct_tallies.specs.declared.count.StopCount.{StopCount}
+use Rattle.pct_tallies.specs.declared.seed_run.SeedRun.{SeedRun}
+use Rattle.pct_tallies.specs.declared.seeds.Seeds.{Seeds}
+use Rattle.pct_tallies.specs.declared.tally.Tally.{Tally}
+use Rattle.pct_tallies.specs.Seeds.{seed_count, seeds_in}
+use Rattle.pct_tallies.proofs.Verdicts.{same_as_itself, same_verdict}
 use Rattle.pct_sample.specs.SeedRuns.{IsRunOfSeed, config_of}
-use Rattle.pct_sample.specs.Tallies.{TallyOf, all_stops, count_of, has_verdict, is_met, stop_count, stops_among}
+use Rattle.pct_sample.specs.Samples.{TallyOf}
+use Rattle.pct_tallies.specs.Tallies.{all_stops, count_of, has_verdict, is_met, stop_count, stops_among}
 use Rattle.pct_sample.specs.FirstSeeds.{AreFirstSeeds, EndsWith, IsFirstSeed}
-use Rattle.pct_sample.proofs.FirstHits.{NoneHas, OneHas, first_hit}
-use Rattle.pct_sample.proofs.Verdicts.{same_as_itself, same_verdict}
+use Rattle.pct_tallies.proofs.FirstHits.{NoneHas, OneHas, first_hit}
 
 -- a run has the verdict that is its own, and no other
 has_its_own : (r : SeedRun) → has_verdict r.verdict r ≡ true
@@ -54,24 +57,26 @@ lacks_it script v seed r made lacks ends =
     false≢true (sym lacks ∙ subst (λ (w : Verdict). has_verdict w r ≡ true) is (has_its_own r))
 
 -- no seed's run has the verdict
-no_first : (script : Script) (k : ℕ) (v : Verdict) (runs : List SeedRun) → NoneHas (has_verdict v) (λ r. r.seed) (IsRunOfSeed script) (λ n r made. made.seed_is) 1 k runs → IsFirstSeed script k v (count_of v runs)
-no_first script k v runs none = record {
+no_first : (script : Script) (seeds : Seeds) (v : Verdict) (runs : List SeedRun) → NoneHas (has_verdict v) (λ r. r.seed) (IsRunOfSeed script) (λ n r made. made.seed_is) seeds.first (seed_count seeds) runs → IsFirstSeed script seeds v (count_of v runs)
+no_first script seeds v runs none = record {
   none = ((λ _. none.runs), (λ _. none.first));
+  above = λ some. absurd (some none.runs);
   within = omega (arith, none.first);
   found = λ some. absurd (some none.runs);
   least = λ seed low high ends.
-      let run = none.each seed low (omega (arith, high)) in
+      let run = none.each seed low (omega (arith, low, high)) in
       absurd (lacks_it script v seed run.0 run.1 run.2 ends);
 }
 
 -- the first that has it is the least
-has_first : (script : Script) (k : ℕ) (v : Verdict) (runs : List SeedRun) → OneHas (has_verdict v) (λ r. r.seed) (IsRunOfSeed script) (λ n r made. made.seed_is) 1 k runs → IsFirstSeed script k v (count_of v runs)
-has_first script k v runs one =
+has_first : (script : Script) (seeds : Seeds) (v : Verdict) (runs : List SeedRun) → 1 ≤ seeds.first → OneHas (has_verdict v) (λ r. r.seed) (IsRunOfSeed script) (λ n r made. made.seed_is) seeds.first (seed_count seeds) runs → IsFirstSeed script seeds v (count_of v runs)
+has_first script seeds v runs from_one one =
     let count = count_of v runs in
     let some : count.runs ≢ 0 = λ none. absurd (omega (arith, none, one.runs)) in
     record {
-      none = ((λ zero_first. absurd (omega (arith, zero_first, one.first, one.least))), (λ none. absurd (some none)));
-      within = omega (arith, one.first, one.most);
+      none = ((λ zero_first. absurd (omega (arith, zero_first, one.first, one.least, from_one))), (λ none. absurd (some none)));
+      above = λ _. omega (arith, one.first, one.least);
+      within = omega (arith, one.first, one.least, one.most);
       found = λ _. subst (λ (seed : ℕ). EndsWith script v seed) (sym one.first) (ends_with script v one.number one.item one.of_number one.has_it);
       least = λ seed low high ends. (
         some,
@@ -83,28 +88,28 @@ has_first script k v runs one =
       );
     }
 
--- a count of the runs of the seeds 1 to k names the first of them
-first_seed : (script : Script) (k : ℕ) (v : Verdict) (runs : List SeedRun) → AllZip (IsRunOfSeed script) (range_with_len 1 k) runs → IsFirstSeed script k v (count_of v runs)
-first_seed script k v runs of_seeds = elim (first_hit (has_verdict v) (λ r. r.seed) (IsRunOfSeed script) (λ n r made. made.seed_is) 1 k runs of_seeds) [
-  | inl none ↦ no_first script k v runs none
-  | inr one ↦ has_first script k v runs one
+-- a count of the runs of the seeds of a range names the first of them
+first_seed : (script : Script) (seeds : Seeds) (v : Verdict) (runs : List SeedRun) → 1 ≤ seeds.first → AllZip (IsRunOfSeed script) (seeds_in seeds) runs → IsFirstSeed script seeds v (count_of v runs)
+first_seed script seeds v runs from_one of_seeds = elim (first_hit (has_verdict v) (λ r. r.seed) (IsRunOfSeed script) (λ n r made. made.seed_is) seeds.first (seed_count seeds) runs of_seeds) [
+  | inl none ↦ no_first script seeds v runs none
+  | inr one ↦ has_first script seeds v runs from_one one
 ]
 
 -- so do those of the stops that ended a run
-first_stops : (script : Script) (k : ℕ) (runs : List SeedRun) → AllZip (IsRunOfSeed script) (range_with_len 1 k) runs → (whys : List Why) → All (λ s. IsFirstSeed script k (verdict.Undefined s.why) s.count) (stops_among runs whys)
+first_stops : (script : Script) (seeds : Seeds) (runs : List SeedRun) → 1 ≤ seeds.first → AllZip (IsRunOfSeed script) (seeds_in seeds) runs → (whys : List Why) → All (λ s. IsFirstSeed script seeds (verdict.Undefined s.why) s.count) (stops_among runs whys)
 unfolding stops_among
-first_stops script k runs of_seeds whys =
-    let is_first = λ (s : StopCount). IsFirstSeed script k (verdict.Undefined s.why) s.count in
+first_stops script seeds runs from_one of_seeds whys =
+    let is_first = λ (s : StopCount). IsFirstSeed script seeds (verdict.Undefined s.why) s.count in
     All-filter is_met is_first (map (stop_count runs) whys)
-    (All-map is_first (stop_count runs) whys (λ at d within. first_seed script k (verdict.Undefined (slice_index_or whys at d)) runs of_seeds))
+    (All-map is_first (stop_count runs) whys (λ at d within. first_seed script seeds (verdict.Undefined (slice_index_or whys at d)) runs from_one of_seeds))
 
 -- and those of the tally
-pub are_first_seeds : (script : Script) (k : ℕ) (tally : Tally) → TallyOf script k tally → AreFirstSeeds script k tally
-are_first_seeds script k tally of_runs =
-    subst (λ (t : Tally). AreFirstSeeds script k t) (sym of_runs.counted)
+pub are_first_seeds : (script : Script) (seeds : Seeds) (tally : Tally) → 1 ≤ seeds.first → TallyOf script seeds tally → AreFirstSeeds script seeds tally
+are_first_seeds script seeds tally from_one of_runs =
+    subst (λ (t : Tally). AreFirstSeeds script seeds t) (sym of_runs.counted)
     (record {
-      complete = first_seed script k verdict.Complete of_runs.runs of_runs.of_seeds;
-      deadlock = first_seed script k verdict.Deadlock of_runs.runs of_runs.of_seeds;
-      budget = first_seed script k verdict.Budget of_runs.runs of_runs.of_seeds;
-      stops = first_stops script k of_runs.runs of_runs.of_seeds all_stops;
+      complete = first_seed script seeds verdict.Complete of_runs.runs from_one of_runs.of_seeds;
+      deadlock = first_seed script seeds verdict.Deadlock of_runs.runs from_one of_runs.of_seeds;
+      budget = first_seed script seeds verdict.Budget of_runs.runs from_one of_runs.of_seeds;
+      stops = first_stops script seeds of_runs.runs from_one of_runs.of_seeds all_stops;
     })

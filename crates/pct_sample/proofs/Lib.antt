@@ -1,8 +1,11 @@
 mod OkRuns
-mod FirstHits
-mod Verdicts
 mod SeedRuns
 mod FirstSeeds
+mod ShiftedSeeds
+mod EventCounts
+pub mod FewJoins
+pub mod LongerTallies
+pub mod CountedTallies
 pub mod SeedOptions
 pub mod OneTally
-mod TallyLines
+pub mod Sums

@@ -1,16 +1,17 @@
--- A seed has one row, and so a number of seeds has one tally.
+-- A seed has one row, and so a range of seeds has one tally.
 use Rattle.std.proofs.Common.{ℕ, ◌≡◌, List, [], ◌∷◌, ap, refl, sym, length, reverse, ◌∙◌}
-use Rattle.std.specs.List.{AllZip, count_by, range_with_len}
+use Rattle.std.specs.List.{AllZip, count_by}
 use Rattle.pct_names.proofs.Names.{same_Some}
 use Rattle.pct_model.specs.declared.limits.TheConstants.{DEFAULT_BUDGET}
 use Rattle.pct_model.specs.declared.schedule.Entry.{Entry}
 use Rattle.pct_model.specs.declared.script.Script.{Script}
 use Rattle.pct_model.specs.Run.{Run, run, verdict_of}
 use Rattle.pct_scheduled_run.proofs.OneSchedule.{seed_schedule_is_one}
-use Rattle.pct_sample.specs.declared.seed_run.SeedRun.{SeedRun}
+use Rattle.pct_tallies.specs.declared.seed_run.SeedRun.{SeedRun}
+use Rattle.pct_tallies.specs.Seeds.{seeds_in}
+use Rattle.pct_tallies.specs.Tallies.{tally_of}
 use Rattle.pct_sample.specs.OneTally.{TalliesAreOne}
 use Rattle.pct_sample.specs.SeedRuns.{IsRunOfSeed, config_of, is_canceled, is_joined}
-use Rattle.pct_sample.specs.Tallies.{tally_of}
 
 -- what is counted of a run
 abbrev row_of : Script → ℕ → List Entry → Run → SeedRun
@@ -47,4 +48,4 @@ rows_are_one script (n ∷ seeds) (a ∷ one) [] x y = absurd y
 rows_are_one script (n ∷ seeds) (a ∷ one) (b ∷ other) x y = λ i. row_is_one script n a b x.0 y.0 i ∷ rows_are_one script seeds one other x.1 y.1 i
 
 pub tallies_are_one : TalliesAreOne
-tallies_are_one script k one other x y = x.counted ∙ ap tally_of (rows_are_one script (range_with_len 1 k) x.runs y.runs x.of_seeds y.of_seeds) ∙ sym y.counted
+tallies_are_one script seeds one other x y = x.counted ∙ ap tally_of (rows_are_one script (seeds_in seeds) x.runs y.runs x.of_seeds y.of_seeds) ∙ sym y.counted

@@ -10,7 +10,7 @@ use Rattle.pct_engine.specs.EngineStates.{EngineValue, IsRunOf}
 use Rattle.pct_scheduled_run.specs.ScheduledRuns.{IsChosenAt, IsContinuedBy}
 use Rattle.pct_scheduled_run.specs.SeedSchedules.{SeedSchedule}
 use Rattle.pct_scheduled_run.specs.Streams.{draws, stream_of}
-use Rattle.pct_sample.specs.declared.seed_run.SeedRun.{SeedRun}
+use Rattle.pct_tallies.specs.declared.seed_run.SeedRun.{SeedRun}
 use Rattle.pct_sample.specs.SeedRuns.{IsRunOfSeed, IsSummaryOf, config_of}
 
 -- a run without entries that worker 1 went on with to its end is that of the seed, if it has no more entries than the worker has turns

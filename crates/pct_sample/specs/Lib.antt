@@ -1,6 +1,6 @@
 pub mod SeedRuns
-pub mod Tallies
+pub mod Samples
 pub mod FirstSeeds
 pub mod SeedWords
 pub mod OneTally
-pub mod TallyTexts
+pub mod Sums

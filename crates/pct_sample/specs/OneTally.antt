@@ -1,9 +1,10 @@
--- A script has one tally for each number of seeds.
-use Rattle.std.specs.Prelude.{◌≡◌, ℕ}
+-- A script has one tally for each range of seeds.
+use Rattle.std.specs.Prelude.{◌≡◌}
 use Rattle.pct_model.specs.declared.script.Script.{Script}
-use Rattle.pct_sample.specs.declared.tally.Tally.{Tally}
-use Rattle.pct_sample.specs.Tallies.{TallyOf}
+use Rattle.pct_tallies.specs.declared.seeds.Seeds.{Seeds}
+use Rattle.pct_tallies.specs.declared.tally.Tally.{Tally}
+use Rattle.pct_sample.specs.Samples.{TallyOf}
 
--- what is counted depends on the script and the number of seeds alone
+-- what is counted depends on the script and the seeds alone
 abbrev pub TalliesAreOne : Type 0
-TalliesAreOne = (script : Script) (k : ℕ) (one other : Tally) → TallyOf script k one → TallyOf script k other → one ≡ other
+TalliesAreOne = (script : Script) (seeds : Seeds) (one other : Tally) → TallyOf script seeds one → TallyOf script seeds other → one ≡ other

@@ -12,7 +12,7 @@ use Rattle.pct_model.specs.Formats.{config_for}
 use Rattle.pct_model.specs.Run.{Run, run, verdict_of}
 use Rattle.pct_model.specs.RunOptions.{default_config}
 use Rattle.pct_scheduled_run.specs.SeedSchedules.{SeedSchedule}
-use Rattle.pct_sample.specs.declared.seed_run.SeedRun.{SeedRun}
+use Rattle.pct_tallies.specs.declared.seed_run.SeedRun.{SeedRun}
 
 -- ---- what is counted
 

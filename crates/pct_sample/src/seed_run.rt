@@ -11,28 +11,16 @@ use pct_io::NoMemory;
 use pct_model::{Config, Event, PTHREAD_CANCELED, Script, Verdict, What, format_of};
 use pct_scheduled_run::{continue_run, stream_of};
 use pct_script::copy_script;
+use pct_tallies::SeedRun;
 use std::alloc::Global;
 
 // The worker that makes every step.
 const WORKER: u32 = 1;
 
-/// What is counted of the run of a script under a seed.
-#[derive(Clone, Copy, Debug, PartialEq, Eq)]
-pub struct SeedRun {
-    pub seed: u32,
-    pub verdict: Verdict,
-    /// The number of its entries.
-    pub steps: u32,
-    /// The number of its events `joined`.
-    pub joined: u32,
-    /// The number of those events with the value of a canceled thread.
-    pub canceled: u32,
-}
-
 /// Makes the run that `run --seed S` makes of a script without other options, and counts what is in it. The script is copied.
 ///
 /// `NoMemory` is returned if the copy or the run does not fit into memory.
-pub fn run_seed(alloc: Global, script: &Script, seed: u32) -> Result<SeedRun, NoMemory>
+pub fn run_seed(alloc: Global, script: &Script, seed: u64) -> Result<SeedRun, NoMemory>
     ensures { IfOk result (IsRunOfSeed script.now seed) }
 {
     let config = Config {
@@ -40,12 +28,12 @@ pub fn run_seed(alloc: Global, script: &Script, seed: u32) -> Result<SeedRun, No
         ..Config::DEFAULT
     };
     let mut engine = Engine::open(alloc, copy_script(alloc, script)?, config)?;
-    continue_run(&mut engine, WORKER, &mut stream_of(u64::from(seed), WORKER));
+    continue_run(&mut engine, WORKER, &mut stream_of(seed, WORKER));
     Ok(summary_of(&engine, seed))
 }
 
 // What is counted of the run of an engine, which is that of a seed.
-fn summary_of(engine: &Engine, seed: u32) -> SeedRun
+fn summary_of(engine: &Engine, seed: u64) -> SeedRun
     requires { engine.now.config.budget ≤ MAX_BUDGET }
     ensures seed { result.seed ≡ seed }
     ensures counted { (after : Run) → IsRunOf engine.now after → IsSummaryOf engine.now.script engine.now.config engine.now.history after result }

@@ -4,8 +4,6 @@
 mod cells;
 mod grid;
 mod stack_block;
-#[cfg(test)]
-mod tests;
 mod words;
 mod words_from;
 

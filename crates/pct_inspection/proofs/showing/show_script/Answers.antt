@@ -1,4 +1,4 @@
-use Rattle.pct_names.proofs.Names.{ap, Entry, List, subst, ◌∙◌}
+use Rattle.pct_names.proofs.Names.{ap, Entry, List, refl, subst, ◌∙◌}
 use Rattle.pct_script.specs.StatementLines.{statement_lines}
 use Rattle.pct_engine.specs.EngineStates.{EngineValue}
 use Rattle.pct_view_texts.specs.TextBuffers.{text_in}
@@ -35,4 +35,4 @@ returns-in-Ok c = λ words input asks has of_text.
 pub returns-in-Err-Refused : goal.returns-in-Err-Refused
 returns-in-Err-Refused c = λ words input asks has of_text.
     rw c.in-Err-Refused.field-0-is
-    (prefix-answer words input (inspection.Show c.args.view) c.args.script c.in-Err-Refused.line c.in-Err-Refused.why asks has.has_script (rw (c.in-Err-Refused.field-0-is, c.format_of.ensures, has.rest) at c.in-Err-Refused.ensures.read))
+    (prefix-answer words input (inspection.Show c.args.view) c.args.script c.in-Err-Refused.line c.in-Err-Refused.why asks refl has.has_script (rw (c.in-Err-Refused.field-0-is, c.format_of.ensures, has.rest) at c.in-Err-Refused.ensures.read))

@@ -1,9 +1,9 @@
-use Rattle.std.proofs.Common.{[], ap, subst, ◌∙◌}
+use Rattle.std.proofs.Common.{[], subst, ◌∙◌}
 use Rattle.rand_pcg.specs.Lcg.{Lcg}
 use Rattle.pct_model.specs.RunOptions.{default_config}
 use Rattle.pct_engine.specs.EngineStates.{EngineValue}
 use Rattle.pct_scheduled_run.specs.ScheduledRuns.{IsContinuedBy}
-use Rattle.pct_scheduled_run.specs.Streams.{draws, stream_of}
+use Rattle.pct_scheduled_run.specs.Streams.{draws}
 use Rattle.pct_sample.proofs.SeedRuns.{run_of_seed}
 use Rattle.pct_sample.proofs.seed_run.run_seed.Goals as goal
 
@@ -11,7 +11,7 @@ pub returns : goal.returns
 returns c =
     let opened : EngineValue = c.in_ok-engine.engine in
     let made : EngineValue = c.continue_run.new.engine in
-    let stream = c.stream_of.ensures ∙ ap (λ n. stream_of n 1) c.from.ensures in
+    let stream = c.stream_of.ensures in
     run_of_seed c.args.script.now c.args.seed opened made c.summary_of.result
     (c.in_ok-engine.ensures ∙ (λ i. record { script = c.in_ok-copy_script.ensures i; config = record default_config { format = c.format_of.ensures i }; history = [] }))
     c.continue_run.ensures.same

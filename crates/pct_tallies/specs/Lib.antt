@@ -1,0 +1,11 @@
+pub mod Seeds
+pub mod Tallies
+pub mod Sums
+pub mod TallyTexts
+pub mod Readings
+pub mod Totals
+pub mod Faults
+pub mod SumLaws
+pub mod LinesLeft
+pub mod CountTexts
+pub mod TextLaws
