@@ -1,0 +1,11 @@
+mod SpelledLines
+mod Patterns
+mod RulesRead
+mod LinesRead
+mod Failures
+mod EventLines
+mod WordMatches
+mod ThreadNames
+mod RuleFailures
+mod RuleAnswers
+mod OneAnswer

@@ -1,0 +1,9 @@
+pub mod AnswerLaws
+pub mod Answers
+pub mod Events
+pub mod Gives
+pub mod Parts
+pub mod Reading
+pub mod Rules
+pub mod Searches
+pub mod SpelledLines
