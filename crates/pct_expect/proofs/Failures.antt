@@ -16,7 +16,7 @@ abbrev pub FoundFrom : (ℕ → Type 0) → (ℕ → Type 0) → ℕ → Option 
 FoundFrom M H k None = (i : ℕ) → k ≤ i → M i → H i
 FoundFrom M H k (Some n) = IsFirstFrom M H k n
 
--- one more index in front
+-- one more index before the others
 pub from_one_less : (P : ℕ → Type 0) (j k : ℕ) → k ≡ j + 1 → P j → ((i : ℕ) → k ≤ i → P i) → (i : ℕ) → j ≤ i → P i
 from_one_less P j k next here more i after =
     elim (cases_lt j i) [

@@ -59,7 +59,7 @@ front_whole (word ∷ words) none =
     let parts = and_parts (not (is_slash word)) (no_slash words) none in
     front_later (word ∷ words) word words refl (not-true (is_slash word) parts.0) ∙ ap (λ (others : List (List ℕ)). word ∷ others) (front_whole words parts.1)
 
--- a pattern is the front of itself
+-- a pattern is all words before a slash
 pub before_slash_of_pattern : (words : List (List ℕ)) → is_pattern words ≡ true → before_slash words ≡ words
 before_slash_of_pattern words is = front_whole words (pattern_parts words is).1
 
@@ -77,7 +77,7 @@ pub sides_first : (words : List (List ℕ)) (word : List ℕ) (after : List (Lis
 unfolding sides
 sides_first words word after e is = ap sides e ∙ ap (λ (t : Bool). if t then Some ([], after) else option_map (λ parts. (word ∷ parts.0, parts.1)) (sides after)) is
 
--- one more word in front
+-- one more word before the others
 abbrev pub with_word : List ℕ → List (List ℕ) × List (List ℕ) → List (List ℕ) × List (List ℕ)
 with_word word parts = (word ∷ parts.0, parts.1)
 
@@ -110,7 +110,7 @@ sized_first n after =
     let same : n + 0 ≡ n = omega arith in
     ap (λ (m : ℕ). Some (m, after)) same
 
--- what stands before the first `/` is the front of the words and has none
+-- the words before the first `/` have none
 pub record AreSides (words : List (List ℕ)) (first second : List (List ℕ)) : Type 0 where
   pub front : before_slash words ≡ first
   pub none : no_slash first ≡ true
