@@ -62,6 +62,15 @@ impl Engine {
         Ok(PlannedRun::open(alloc, script, config, Vec::new(alloc))?.into_engine())
     }
 
+    /// Makes this the engine of the run without entries, of the same script under the same configuration. No memory is taken or given back.
+    pub fn restart(&mut self)
+        ensures { self.new ≡ record self.old { history = [] } }
+    {
+        self.machine.restart(&self.program);
+        self.sets.mark_all();
+        self.trace.restart();
+    }
+
     /// The engine with these parts.
     pub(crate) fn of_parts(
         program: Program,

@@ -52,6 +52,15 @@ impl Trace {
         })
     }
 
+    /// Forgets the entries, their events, and what is planned. Their memory is kept.
+    pub fn restart(&mut self)
+        ensures { self.new ≡ record { budget = self.old.budget; history = []; planned = []; events = [] } }
+    {
+        self.entries.clear();
+        self.made = 0;
+        self.events.clear();
+    }
+
     /// The next of the planned entries.
     #[inline(always)]
     pub fn next(&self) -> Entry

@@ -57,6 +57,15 @@ impl Keys {
         })
     }
 
+    /// Makes this a table for at most 64 slots, without keys, as `new` does. No memory is taken.
+    pub fn restart(&mut self, slots: u32)
+        requires { slots ≤ MAX_SLOTS }
+        ensures { self.new ≡ new_table slots }
+    {
+        self.places = no_keys();
+        new_rows(&mut self.rows, slots as usize);
+    }
+
     // ---- keys
 
     /// The place of the key with this number. It is `None` exactly if there is none.

@@ -15,5 +15,5 @@ mod Picks
 mod ReadyProcesses
 mod OnlyThreads
 mod ReadPlaces
-mod FollowingLists
+pub mod FollowingLists
 pub mod ConfigLimits

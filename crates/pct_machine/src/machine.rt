@@ -59,6 +59,17 @@ impl Machine {
         })
     }
 
+    /// Makes this the state before the first step of a program, with 1 to 64 thread slots. No memory is taken.
+    pub fn restart(&mut self, program: &Program)
+        requires some { 1 ≤ program.now.config.slots }
+        requires few { program.now.config.slots ≤ MAX_SLOTS }
+        ensures { self.new ≡ seen program.now.config.slots (opening program.now.script) }
+    {
+        self.processes
+            .restart(&program.script, program.config.slots);
+        self.stop = None;
+    }
+
     /// Makes the step of an entry, and writes the transition that it takes to `transition`. The result is false exactly if the entry is
     /// not legal, and then the machine is as it was. The slots that the step touches become stale. At most four records of threads are
     /// lent, and one for each thread that a broadcast wakes.

@@ -50,23 +50,21 @@ impl Place {
     ghost use Rattle.pct_machine.specs.ShownProcesses.{ShowsProcess};
     ghost use Rattle.pct_ready_sets.specs.ReadyConditions.{Follows, FollowsAt, IsFreshAt};
 
-    /// The first process before the first step, with 1 to 64 thread slots. `NoMemory` is returned if its tables do not fit into memory.
-    pub fn first(alloc: Global, script: &Script, slots: u32) -> Result<Place, NoMemory>
+    /// Makes this the first process before the first step, with 1 to 64 thread slots. No memory is taken.
+    pub fn restart(&mut self, script: &Script, slots: u32)
         requires some { 1 ≤ slots }
         requires few { slots ≤ MAX_SLOTS }
-        ensures { IfOk result (λ place. place ≡ seen_process slots (first_process script.now)) }
+        ensures { self.new ≡ seen_process slots (first_process script.now) }
     {
-        Ok(Place {
-            relative: Relative {
-                pid: 1,
-                parent: 0,
-                ended: None,
-            },
-            state: ProcessState::first(alloc, script, slots)?,
-        })
+        self.relative = Relative {
+            pid: 1,
+            parent: 0,
+            ended: None,
+        };
+        self.state.restart(script, slots);
     }
 
-    /// A place that is free, with the memory for a child process. `NoMemory` is returned if there is none.
+    /// A place that is free, with the memory for a process. `NoMemory` is returned if there is none.
     pub fn reserve(alloc: Global) -> Result<Place, NoMemory> {
         Ok(Place {
             relative: Relative {

@@ -65,18 +65,27 @@ impl Processes {
         requires few { slots ≤ MAX_SLOTS }
         ensures { IfOk result (λ list. list ≡ record { processes = seen_process slots (first_process script.now) ∷ []; made = 1 }) }
     {
-        let mut relatives = Relatives::new();
-        relatives.push(Relative {
-            pid: 1,
-            parent: 0,
-            ended: None,
-        });
-        Ok(Processes {
-            places: first_places(alloc, script, slots)?,
-            live: 1,
-            made: 1,
-            relatives,
-        })
+        let mut list = Processes {
+            places: reserved_places(alloc)?,
+            live: 0,
+            made: 0,
+            relatives: Relatives::new(),
+        };
+        list.restart(script, slots);
+        Ok(list)
+    }
+
+    /// Makes these the processes before the first step, with 1 to 64 thread slots. No memory is taken.
+    pub fn restart(&mut self, script: &Script, slots: u32)
+        requires some { 1 ≤ slots }
+        requires few { slots ≤ MAX_SLOTS }
+        ensures { self.new ≡ record { processes = seen_process slots (first_process script.now) ∷ []; made = 1 } }
+    {
+        self.places[0].restart(script, slots);
+        self.live = 1;
+        self.made = 1;
+        self.relatives.clear();
+        self.relatives.push(self.places[0].relative());
     }
 
     /// The places of the processes.
@@ -249,15 +258,12 @@ fn surroundings<'a>(
     }
 }
 
-// MAX_PROCESSES places, with the first process on the first one.
-fn first_places(alloc: Global, script: &Script, slots: u32) -> Result<Vec<Place>, NoMemory>
-    requires some { 1 ≤ slots }
-    requires few { slots ≤ MAX_SLOTS }
-    ensures { IfOk result (λ places. (take 1 places.items ≡ seen_process slots (first_process script.now) ∷ []) × (length places.items ≡ MAX_PROCESSES)) }
+// MAX_PROCESSES places, each of them free.
+fn reserved_places(alloc: Global) -> Result<Vec<Place>, NoMemory>
+    ensures { IfOk result (λ places. length places.items ≡ MAX_PROCESSES) }
 {
     let mut places = Vec::with_capacity(alloc, MAX_PROCESSES)?;
-    places.push(Place::first(alloc, script, slots)?)?;
-    for _ in 1..MAX_PROCESSES {
+    for _ in 0..MAX_PROCESSES {
         places.push(Place::reserve(alloc)?)?;
     }
     Ok(places)

@@ -73,28 +73,35 @@ impl ProcessState {
         requires few { slots ≤ MAX_SLOTS }
         ensures { IfOk result (λ process. process ≡ first_data slots script.now) }
     {
-        let main = main_of(script.funcs.as_slice()) as u32;
-        let mut threads = Threads::new(alloc, slots)?;
-        threads.create(0, main, 0, false);
-        threads.call_alone(0, main, 0, FrameKind::Main);
-        let mut standings = Standings::new();
-        standings.put(0, Standing::Other, true);
-        Ok(ProcessState {
-            threads,
-            standings,
-            keys: Keys::new(alloc, slots)?,
-            globals: Values::new(script.globals.as_slice().len(), 0),
-            owners: Values::new(script.mutexes.as_slice().len(), 0),
-            counts: Values::counts_of(script.sems.as_slice()),
-            onces: Values::new(script.onces.as_slice().len(), OnceState::Fresh),
-            fork_handlers: ForkRegistrations::new(),
-            exit_functions: ExitFunctions::new(),
-            exit_value: None,
-            restricted: false,
-        })
+        let mut process = ProcessState::reserve(alloc)?;
+        process.restart(script, slots);
+        Ok(process)
     }
 
-    /// Memory for the data of a process that a fork makes, with at most 64 slots. Hardly any of it is written to before `inherit`.
+    /// Makes this the data of the first process before the first step, with 1 to 64 slots: thread 1 is in `main`. No memory is taken.
+    pub fn restart(&mut self, script: &Script, slots: u32)
+        requires some { 1 ≤ slots }
+        requires few { slots ≤ MAX_SLOTS }
+        ensures { self.new ≡ first_data slots script.now }
+    {
+        let main = main_of(script.funcs.as_slice()) as u32;
+        self.threads.restart(slots);
+        self.threads.create(0, main, 0, false);
+        self.threads.call_alone(0, main, 0, FrameKind::Main);
+        self.standings = Standings::new();
+        self.standings.put(0, Standing::Other, true);
+        self.keys.restart(slots);
+        self.globals = Values::new(script.globals.as_slice().len(), 0);
+        self.owners = Values::new(script.mutexes.as_slice().len(), 0);
+        self.counts = Values::counts_of(script.sems.as_slice());
+        self.onces = Values::new(script.onces.as_slice().len(), OnceState::Fresh);
+        self.fork_handlers = ForkRegistrations::new();
+        self.exit_functions = ExitFunctions::new();
+        self.exit_value = None;
+        self.restricted = false;
+    }
+
+    /// Memory for the data of a process with at most 64 slots. Hardly any of it is written to before `restart` or `inherit`.
     /// `NoMemory` is returned if the tables do not fit into memory.
     pub fn reserve(alloc: Global) -> Result<ProcessState, NoMemory> {
         Ok(ProcessState {

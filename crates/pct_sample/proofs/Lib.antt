@@ -1,7 +1,7 @@
 mod OkRuns
 mod SeedRuns
 mod FirstSeeds
-mod ShiftedSeeds
+mod LongerRows
 mod EventCounts
 pub mod FewJoins
 pub mod LongerTallies

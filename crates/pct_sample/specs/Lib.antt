@@ -1,4 +1,5 @@
 pub mod SeedRuns
+pub mod SeededRuns
 pub mod Samples
 pub mod FirstSeeds
 pub mod SeedWords

@@ -6,5 +6,5 @@ mod sampling;
 mod seed_run;
 
 pub use law::{seeds_are_options, sums_are_tallies, tallies_are_one};
-pub use sampling::{sample, sample_runs};
-pub use seed_run::run_seed;
+pub use sampling::sample;
+pub use seed_run::run_again;

@@ -4,7 +4,8 @@ ghost use Rattle.std.specs.Prelude.{◌≡◌, ◌*◌, ◌≤◌, length, count
 ghost use Rattle.pct_model.specs.declared.limits.TheConstants.{MAX_BUDGET};
 ghost use Rattle.pct_model.specs.Run.{Run};
 ghost use Rattle.pct_engine.specs.EngineStates.{IsRunOf};
-ghost use Rattle.pct_sample.specs.SeedRuns.{IsRunOfSeed, IsSummaryOf, is_canceled, is_joined};
+ghost use Rattle.pct_sample.specs.SeededRuns.{IsSeededRun};
+ghost use Rattle.pct_sample.specs.SeedRuns.{IsRunOfSeed, IsSummaryOf, config_of, is_canceled, is_joined};
 
 use pct_engine::Engine;
 use pct_io::NoMemory;
@@ -17,19 +18,37 @@ use std::alloc::Global;
 // The worker that makes every step.
 const WORKER: u32 = 1;
 
-/// Makes the run that `run --seed S` makes of a script without other options, and counts what is in it. The script is copied.
+/// The engine of the runs that `run --seed` makes of a script without other options. The script is copied.
 ///
-/// `NoMemory` is returned if the copy or the run does not fit into memory.
-pub fn run_seed(alloc: Global, script: &Script, seed: u64) -> Result<SeedRun, NoMemory>
-    ensures { IfOk result (IsRunOfSeed script.now seed) }
+/// `NoMemory` is returned if the copy or a run does not fit into memory.
+pub(crate) fn open_default(alloc: Global, script: &Script) -> Result<Engine, NoMemory>
+    ensures { IfOk result (λ engine. (engine.script ≡ script.now) × (engine.config ≡ config_of script.now)) }
 {
     let config = Config {
         format: format_of(script),
         ..Config::DEFAULT
     };
-    let mut engine = Engine::open(alloc, copy_script(alloc, script)?, config)?;
-    continue_run(&mut engine, WORKER, &mut stream_of(seed, WORKER));
-    Ok(summary_of(&engine, seed))
+    Engine::open(alloc, copy_script(alloc, script)?, config)
+}
+
+/// Makes the run that one worker makes of the engine's script under a seed, with the engine's configuration. What the engine ran before is
+/// forgotten.
+pub fn run_again(engine: &mut Engine, seed: u64)
+    ensures same { engine.new ≡ record engine.old { history = engine.new.history } }
+    ensures run { IsSeededRun engine.old.script engine.old.config seed engine.new }
+{
+    engine.restart();
+    continue_run(engine, WORKER, &mut stream_of(seed, WORKER));
+}
+
+/// Makes the run of a seed with an engine of `open_default`, and counts what is in it.
+pub(crate) fn run_seed(engine: &mut Engine, seed: u64) -> SeedRun
+    requires { engine.old.config ≡ config_of engine.old.script }
+    ensures same { engine.new ≡ record engine.old { history = engine.new.history } }
+    ensures run { IsRunOfSeed engine.old.script seed result }
+{
+    run_again(engine, seed);
+    summary_of(engine, seed)
 }
 
 // What is counted of the run of an engine, which is that of a seed.

@@ -1,9 +1,9 @@
 //! The table of the threads of one process.
 
-ghost use Rattle.std.specs.Prelude.{◌≡◌, ◌<◌, ◌≤◌, ◌&&◌, ℕ, not, true, false, nat_lt, length, position, if◌then◌else◌, vec_capacity};
+ghost use Rattle.std.specs.Prelude.{◌≡◌, ◌<◌, ◌≤◌, ◌&&◌, ℕ, not, true, false, nat_lt, length, position, if◌then◌else◌, replicate, vec_capacity};
 ghost use Rattle.pct_model.specs.declared.limits.TheConstants.{MAX_SLOTS};
 ghost use Rattle.pct_model.specs.ThreadSlots.{slot_of};
-ghost use Rattle.pct_threads.specs.Rows.{is_row, row_at};
+ghost use Rattle.pct_threads.specs.Rows.{is_row, no_row, row_at};
 ghost use Rattle.pct_set.specs.Slots.{with_slot, without_slot};
 
 use crate::frame_words::kind_of;
@@ -68,15 +68,24 @@ impl Threads {
         ensures { IfOk result (λ threads. threads ≡ replicate slots unused) }
     {
         let mut rows = Vec::with_capacity(alloc, MAX_SLOTS as usize)?;
-        for _ in 0..slots {
-            rows.push(Row::new())?;
-        }
+        new_rows(&mut rows, slots as usize);
         let stacks = StackBlock::new(alloc, MAX_SLOTS, held::STACK_WORDS)?;
         Ok(Threads {
             rows,
             stacks,
             occupied: SlotSet::new(),
         })
+    }
+
+    /// Makes this a table of 1 to 64 slots, none of them occupied, as `new` does. No memory is taken.
+    pub fn restart(&mut self, slots: u32)
+        requires some { 1 ≤ slots }
+        requires few { slots ≤ MAX_SLOTS }
+        ensures { self.new ≡ replicate slots unused }
+    {
+        new_rows(&mut self.rows, slots as usize);
+        self.stacks.reset(None);
+        self.occupied = SlotSet::new();
     }
 
     /// The number of slots, 1 to 64.
@@ -393,6 +402,19 @@ fn row_with(rows: &Vec<Row>, id: u32) -> Option<usize>
     ensures { result ≡ position (is_row id) rows.now.items }
 {
     rows.iter().position(|row| row.has_id(id))
+}
+
+// Makes this many rows, for which there is room, on which no thread was created.
+fn new_rows(rows: &mut Vec<Row>, count: usize)
+    requires few { count ≤ MAX_SLOTS }
+    requires room { MAX_SLOTS ≤ vec_capacity rows.old }
+    ensures rows { rows.new.items ≡ replicate count no_row }
+    ensures room { MAX_SLOTS ≤ vec_capacity rows.new }
+{
+    rows.clear();
+    for _ in 0..count {
+        rows.push_reserved(Row::new());
+    }
 }
 
 // Makes the number of rows that of the other rows, gives back every slot, and makes the number of threads ever created on each that of
