@@ -143,13 +143,17 @@ def plain(text):
     return re.sub(r"\[([^]]*)\]\([^)]*\)", r"\1", text).replace("`", "'")
 
 
+# What is refused for the reasons of a section of FORMATS.md, where that is no schedule.
+KINDS = {"## Tally of a range, and sums": "tally", "## Expectations": "expect", "## Reading a report": "report"}
+
+
 def page_of_reasons(page, kind):
-    """The sentences of a page, by refusal: each reason is a heading, and its cause and mend are items below it. Those of a
-    section on tallies are of tallies."""
+    """The sentences of a page, by refusal: each reason is a heading, and its cause and mend are items below it. Those of the
+    sections on tallies, rules and reports are of these."""
     table, refusal, usual = {}, None, kind
     for line in page.read_text().splitlines():
         if line.startswith("## "):
-            kind = "tally" if line.startswith("## Tally of a range") else usual
+            kind = KINDS.get(line, usual)
         heading = re.fullmatch(r"#+ (.*)", line)
         item = re.fullmatch(r"- \*(Usual cause|Mend):\* (.*)", line)
         if heading:
@@ -163,7 +167,10 @@ def page_of_reasons(page, kind):
 def reasons():
     """For each reason: its name, the sentences of the page, and those of the table."""
     table = {refusal: words for refusal, words in table_of_reasons().items() if not refusal.startswith(("stop ", "deadlock ", "cause "))}
-    pages = {**page_of_reasons(ROOT / "docs/SCRIPT.md", "script"), **page_of_reasons(ROOT / "docs/FORMATS.md", "schedule")}
+    pages = {
+        **page_of_reasons(ROOT / "docs/SCRIPT.md", "script"),
+        **page_of_reasons(ROOT / "docs/FORMATS.md", "schedule"),
+    }
     for refusal in sorted({*table, *pages}):
         yield f"{refusal} in docs/reasons.txt", pages.get(refusal, "none"), table.get(refusal, "none")
 

@@ -329,6 +329,8 @@ WORDS = [
     ("a tally of one seed", "tally 1 a.pct", "a.pct: a seed of tally is a number from 1 to 18446744073709551615\n"),
     ("an option of tally", "tally 1 2 --seed", "--seed: tally has no options\n"),
     ("an option of sum", "sum --all", "--all: sum has no options\n"),
+    ("an option of expect", "expect --strict a.pct", "--strict: expect has no options\n"),
+    ("a word too many for expect", "expect a.pct a.pct a.pct", "a.pct: a word too many for expect\n"),
     ("a file in the place of a seed", "continue a.pct", "a.pct: continue takes a number from 0 to 18446744073709551615\n"),
     ("a word too many for a view", "trace a.pct a.pct 1 more", "more: a word too many for trace\n"),
 ]

@@ -137,6 +137,44 @@ explain_tallies() {
     explain_line
 }
 
+# Explains the refusal of the rules or of the report that `expect` was given: the line, in FILE or in REPORT, and the usual cause.
+explain_expectation() {
+    # A refusal is four words without patterns.
+    # shellcheck disable=SC2046
+    set -- $(repeat_answer "$@")
+    kind=$2 line=$3 why=$4 at=$file:$3
+    if [ "$kind" = report ]; then
+        marker=$(first_line 1 "$marker_line")
+        if [ -z "$marker" ]; then
+            say "$file has no line %%, so all of it is rules and the report is empty: './pct expect RULES REPORT'"
+            return
+        fi
+        line=$((marker + line))
+        at=$file:$line
+        [ -z "$prefix" ] || at=$prefix:$3
+    fi
+    printf '%s: %s\n' "$at" "$why" >&2
+    show_line "$line" script
+    show_reason "$kind" "$why"
+}
+
+# Explains the refusal of the rules of an expectation: the line, which is one of the rules' own file, and the usual cause.
+explain_rules() {
+    # A refusal is four words without patterns.
+    # shellcheck disable=SC2046
+    set -- $(repeat_answer "$@" | head -n 1)
+    kind=$2 why=$4 fault=$4
+    marker=$(first_line 1 "$marker_line")
+    if [ -z "$marker" ]; then
+        say "$file has no line %%, so it has no rules: name a file of rules after it"
+        return
+    fi
+    line=$((marker + $3))
+    printf '%s:%s: %s\n' "${rules:-$file}" "$([ -n "$rules" ] && echo "$3" || echo "$line")" "$fault" >&2
+    show_line "$line" "$kind"
+    show_reason "$kind" "$why"
+}
+
 # ---- words that are refused
 
 explain_words() {

@@ -19,15 +19,16 @@ function range(option, low, high) {
 function on_command(command) {
     if (ARGC < 2) return "a command is missing"
     if (command == "run") return on_run()
-    if (command ~ /^(replay|check|points|build)$/) return on_plain(command)
+    if (command ~ /^(replay|check|expect|points|build)$/) return on_plain(command)
     if (command == "demo") return on_number("demo", 2, "0", "4294967295")
     if (command == "sample") return on_number("sample", 2, "1", "10000")
     if (command == "tally") return on_tally()
     if (command == "sum") return on_sum()
+    if (command == "survey") return on_survey()
     if (command == "continue") return on_continue()
     if (command ~ /^(trace|choices|states|lanes|picture)$/) return on_view(command)
     if (command ~ /^--(version|help)$/) return too_many(command, 1)
-    if (tolower(command) ~ /^(run|replay|check|points|build|demo|sample|continue|trace|choices|states|lanes|picture|tally|sum)$/) return command ": commands are in lower case"
+    if (tolower(command) ~ /^(run|replay|check|expect|points|build|demo|sample|continue|trace|choices|states|lanes|picture|tally|sum|survey|test)$/) return command ": commands are in lower case"
     return command ": no such command"
 }
 
@@ -57,6 +58,19 @@ function on_tally(   i) {
     if (ARGC > 4) return ARGV[4] ~ /^-/ ? ARGV[4] ": tally has no options" : too_many("tally", 4)
     if (!is_in(ARGV[3], stripped(ARGV[2]), largest["--seed"])) return ARGV[3] ": the last seed is less than the first"
     return "tally takes at most 1000000 seeds at once; sum adds tallies"
+}
+
+# The number of seeds of a survey, which has no leading zeros, and its options. FILE and RULES are not among the words.
+function on_survey(   i, option) {
+    if (ARGC < 3) return "survey: the number of seeds is missing, 1 to 100000"
+    if (ARGV[2] ~ /^0/ || !is_in(ARGV[2], "1", "100000")) return ARGV[2] ": the number of seeds of survey is one from 1 to 100000, without leading zeros"
+    for (i = 3; i < ARGC; i++) {
+        if (ARGV[i] !~ /^-/) continue
+        option = ARGV[i]
+        sub(/=.*/, "", option)
+        if (option !~ /^--(budget|passes|slots)$/) return option " is no option of survey; it has --budget, --passes and --slots"
+    }
+    return "survey has a number of seeds, options, FILE and RULES; --budget is 1 to 200000, --passes 4 to 16, --slots 1 to 64, each at most once"
 }
 
 function on_sum() {

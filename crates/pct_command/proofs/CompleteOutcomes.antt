@@ -1,18 +1,28 @@
 -- The outcome of an input that is not refused, the answer to all that a source had left, and what a status promises.
-use Rattle.pct_names.proofs.Names.{◌<◌, ap, Appends, arith, Bool, code_of_verdict, Config, Consumes, Entry, Err, first_illegal, IfSome, inr}
-use Rattle.pct_names.proofs.Names.{is_accepted, length, List, None, none-some, Ok, Option, Outcome, refl, sched_of, Schedule, schedule_part}
+use Rattle.pct_names.proofs.Names.{◌<◌, ap, Appends, arith, Bool, code_of_verdict, cond, Config, Consumes, Entry, Err, first_illegal, IfSome, inl, inr}
+use Rattle.pct_names.proofs.Names.{false, is_accepted, length, List, nat_eq, None, subst, none-some, Ok, Option, Outcome, refl, sched_of, Schedule, schedule_part}
 use Rattle.pct_names.proofs.Names.{ScheduleWhy, Script, Some, sym, true, Verdict, ℕ, ◌∙◌, ◌≡◌, ◌≤◌}
 use Rattle.std.proofs.lemmas.Bool.{true≢false}
 use Rattle.std.proofs.lemmas.List.{length-append}
 use Rattle.pct_model.specs.declared.stop.Verdict.TheVariants as verdict
 use Rattle.pct_model.specs.Outcome as outcome
 use Rattle.pct_grammar.proofs.Scripts.{spells_one_script}
+use Rattle.pct_expect.specs.Reading.{expects_in}
+use Rattle.pct_report_reader.specs.Reading.{report_in}
+use Rattle.pct_judgement.specs.declared.judgement.Judgement.{Judgement}
+use Rattle.pct_judgement.specs.declared.judgement.Judgement.TheVariants as judgement
+use Rattle.pct_judgement.specs.Judgements.{IsJudgement, failed_count, report_part, rules_part}
+use Rattle.pct_judgement.proofs.OneJudgement.{value_or_error}
 use Rattle.pct_command.specs.declared.answers.Answer.{Answer}
 use Rattle.pct_command.specs.declared.status.Status.{Status}
 use Rattle.pct_command.specs.declared.status.Status.TheVariants as status
 use Rattle.pct_command.specs.Status.{code_of, IsAnswered}
-use Rattle.pct_command.specs.Command.{CommandOutcome, Other, Sampled, Outside, Decides, Answers, HasLegalSchedule, IsValid, IsComplete}
+use Rattle.pct_command.specs.declared.words.Job.TheVariants.{Sample}
+use Rattle.pct_command.specs.Expectations.{ExpectOutcome, HasReadParts, InputRefused, IsJudgedCode, Judged, code_of_judgement}
+use Rattle.pct_command.specs.Words.{asks_expect}
+use Rattle.pct_command.specs.Command.{CommandOutcome, Expected, Other, Sampled, Outside, Decides, Answers, HasLegalSchedule, IsValid, IsComplete}
 use Rattle.pct_command.specs.Answer.{AnswersRead, status_of_answer, text_of_answer}
+use Rattle.pct_command.proofs.AskedWords.{expect_is_no_other, other_job}
 use Rattle.pct_command.proofs.Scripts.{spelled_or_fault}
 
 -- ---- an input that is not refused
@@ -64,10 +74,34 @@ not_refused words input schedule code text accepted valid (outcome.Checked check
 not_refused words input schedule code text accepted valid (outcome.PointsWritten written) = omega (arith, written.code_is)
 not_refused words input schedule code text accepted valid (outcome.Demonstrated written) = omega (arith, written.code_is)
 
+-- the outcome of `expect` is one of its words
+pub is_expect : (words : List (List ℕ)) (input : List ℕ) (code : ℕ) (text : List ℕ) → ExpectOutcome words input code text → asks_expect words ≡ true
+is_expect words input code text (InputRefused o) = o.accepted
+is_expect words input code text (Judged o) = o.accepted
+
 -- so has the outcome of `sample`
 pub valid_below_five : (words : List (List ℕ)) (input : List ℕ) (schedule : List Entry) (code : ℕ) (text : List ℕ) → is_accepted words ≡ true → IsValid words input → CommandOutcome words input schedule code text → code < 5
 valid_below_five words input schedule code text accepted valid (Sampled samples) = omega (arith, samples.code_is)
-valid_below_five words input schedule code text accepted valid (Other other) = not_refused words input schedule code text accepted valid other
+valid_below_five words input schedule code text accepted valid (Expected e) = absurd (true≢false (sym accepted ∙ expect_is_no_other words (is_expect words input code text e)))
+valid_below_five words input schedule code text accepted valid (Other _ other) = not_refused words input schedule code text accepted valid other
+
+-- ---- an input of `expect` that is not refused
+
+tested_code : (b : Bool) → IsJudgedCode (cond b 0 14)
+tested_code true = inl refl
+tested_code false = inr refl
+
+-- rules that are read are judged over a report that is read
+judged_code : (input : List ℕ) (j : Judgement) → HasReadParts input → IsJudgement (rules_part input) (report_part input) j → IsJudgedCode (code_of_judgement j)
+judged_code input (judgement.Answered answers) parts is = tested_code (nat_eq (failed_count answers) 0)
+judged_code input (judgement.ExpectRefused line why) parts is = absurd (value_or_error (expects_in (rules_part input)) parts.rules (line, why) parts.read_rules is)
+judged_code input (judgement.ReportRefused line why) parts is = absurd (value_or_error (report_in (report_part input)) (parts.config, parts.lines) (line, why) parts.read_report is.first)
+
+pub valid_is_judged : (words : List (List ℕ)) (input : List ℕ) (schedule : List Entry) (code : ℕ) (text : List ℕ) → asks_expect words ≡ true → HasReadParts input → CommandOutcome words input schedule code text → IsJudgedCode code
+valid_is_judged words input schedule code text asked parts (Sampled s) = absurd (true≢false (sym asked ∙ other_job words (Sample s.number) s.accepted refl))
+valid_is_judged words input schedule code text asked parts (Expected (InputRefused o)) = absurd (omega (arith, parts.fits, o.too_long))
+valid_is_judged words input schedule code text asked parts (Expected (Judged o)) = subst IsJudgedCode (sym o.code_is) (judged_code input o.judgement parts o.is_judgement)
+valid_is_judged words input schedule code text asked parts (Other no_expect o) = absurd (true≢false (sym asked ∙ no_expect))
 
 -- ---- all that a source had left
 
@@ -88,7 +122,7 @@ front_length (Some xs) (Some ys) given left prefix has =
 pub complete : (words : List (List ℕ)) (before after : Outside) (a : Answer) → AnswersRead words before.left after.left a → Appends before.written after.written (text_of_answer a) → IsComplete words before after (status_of_answer a)
 complete words before after a read wrote = λ input has no_read_fault no_write_fault.
     let answer = read.of_all input has in
-    inr (record { text = text_of_answer a; answer = answer; wrote = wrote }, λ accepted valid. valid_below_five words input answer.schedule _ _ accepted valid answer.is_outcome)
+    inr (record { text = text_of_answer a; answer = answer; wrote = wrote }, λ accepted valid. valid_below_five words input answer.schedule _ _ accepted valid answer.is_outcome, λ asked parts. valid_is_judged words input answer.schedule _ _ asked parts answer.is_outcome)
 
 -- ---- what is promised of a status
 

@@ -7,11 +7,11 @@ use Rattle.pct_scheduled_run.specs.SeedSchedules.{SeedSchedule}
 use Rattle.pct_scheduled_run.proofs.OneSchedule.{seed_schedule_is_one}
 use Rattle.pct_command.specs.declared.words.Job.{Job}
 use Rattle.pct_command.specs.declared.words.Job.TheVariants as job
-use Rattle.pct_command.specs.Command.{AnswersAreOne, CommandOutcome, HasOneWorker, IsReportOf, Other, Sampled}
+use Rattle.pct_command.specs.Command.{AnswersAreOne, CommandOutcome, Expected, HasOneWorker, IsReportOf, Other, Sampled}
 use Rattle.pct_command.specs.Words.{job_asked}
 use Rattle.pct_command.proofs.AskedWords.{run_asked}
 use Rattle.pct_command.proofs.CompleteOutcomes.{verdict_code}
-use Rattle.pct_command.proofs.OneOutcome.{by_run, run_of, by_job, found, found_once, sample_has_no_other, samples_are_one}
+use Rattle.pct_command.proofs.OneOutcome.{by_run, run_of, by_job, expect_is_one, one_is_expect, found, found_once, sample_has_no_other, samples_are_one}
 
 -- the code of a report is that of a verdict
 run_below_five : (script : Script) (config : Config) (entries : List Entry) (after : Option Run) (reported : Option (List ℕ)) (code : ℕ) (text : List ℕ) → by_run script config entries after reported ≡ Some (code, text) → code < 5
@@ -46,14 +46,19 @@ outcomes_with : (words : List (List ℕ)) (input : List ℕ) (one other : List E
     → (code < 5 → IsReportOf (job_asked words) words input one code text) → (other_code < 5 → IsReportOf (job_asked words) words input other other_code other_text)
     → CommandOutcome words input one code text → CommandOutcome words input other other_code other_text → (code ≡ other_code) × (text ≡ other_text)
 outcomes_with words input one other code other_code text other_text lone reports other_reports (Sampled a) (Sampled b) = samples_are_one words input code other_code text other_text a b
-outcomes_with words input one other code other_code text other_text lone reports other_reports (Sampled a) (Other b) =
+outcomes_with words input one other code other_code text other_text lone reports other_reports (Sampled a) (Other _ b) =
     absurd (sample_has_no_other words input other code other_code text other_text a b)
-outcomes_with words input one other code other_code text other_text lone reports other_reports (Other a) (Sampled b) =
+outcomes_with words input one other code other_code text other_text lone reports other_reports (Other _ a) (Sampled b) =
     absurd (sample_has_no_other words input one other_code code other_text text b a)
-outcomes_with words input one other code other_code text other_text lone reports other_reports (Other a) (Other b) =
+outcomes_with words input one other code other_code text other_text lone reports other_reports (Other _ a) (Other _ b) =
     found_once words input one other code other_code text other_text
     (λ script spells x y. answer_of_job words input script spells (job_asked words) one other code other_code text other_text x y reports other_reports (λ options named. lone options (run_asked words options named)))
     (found words input one code text a) (found words input other other_code other_text b)
+outcomes_with words input one other code other_code text other_text lone reports other_reports (Expected a) b = expect_is_one words input other code other_code text other_text a b
+outcomes_with words input one other code other_code text other_text lone reports other_reports (Sampled a) (Expected b) =
+    one_is_expect words input one code other_code text other_text (Sampled a) b
+outcomes_with words input one other code other_code text other_text lone reports other_reports (Other no_expect a) (Expected b) =
+    one_is_expect words input one code other_code text other_text (Other no_expect a) b
 
 pub answer_is_one : AnswersAreOne
 answer_is_one words input code other_code text other_text lone a b =

@@ -1,5 +1,5 @@
 -- Words, an input and a schedule have one outcome at the most.
-use Rattle.pct_names.proofs.Names.{ap, asks_demo, Bool, canon, code_of_verdict, Config, config_for, default_config, Demonstrates, Entry}
+use Rattle.pct_names.proofs.Names.{ap, arith, asks_demo, Bool, canon, code_of_verdict, Config, config_for, default_config, Demonstrates, Entry}
 use Rattle.pct_names.proofs.Names.{Err, false, Fault, first_fault, first_illegal, generated_text, is_asked, is_some, IsCountedRun, le-ltb}
 use Rattle.pct_names.proofs.Names.{le_refl, length, line_text, List, nat_lt, needs_input, None, none-some, Ok, Option, option_map, Outcome}
 use Rattle.pct_names.proofs.Names.{points_text, refl, refused_entry, refused_input, refused_schedule, refused_script, refused_words, report}
@@ -13,15 +13,21 @@ use Rattle.pct_grammar.proofs.Scripts.{spelled_is_faultless, spells_one_script}
 use Rattle.pct_grammar.proofs.CanonSpells.{canon_spells}
 use Rattle.pct_command.specs.declared.words.Job.{Job}
 use Rattle.pct_command.specs.declared.words.Job.TheVariants as job
-use Rattle.pct_command.specs.Words.{Asks, HasInput, job_asked}
-use Rattle.pct_command.proofs.AskedWords.{has_input, names_job, job_needs_input, points_need_none, demo_needs_none, demo_is_no_points, none_asked, part_of_run, part_of_check, part_of_sample, sample_within}
+use Rattle.pct_command.specs.Expectations.{code_of_judgement, ExpectOutcome, InputRefused, Judged}
+use Rattle.pct_command.specs.Words.{Asks, asks_expect, HasScriptInput, job_asked}
+use Rattle.pct_command.proofs.AskedWords.{has_input, names_job, other_job, job_needs_input, points_need_none, demo_needs_none, demo_is_no_points, none_asked, part_of_run, part_of_check, part_of_sample, sample_within}
 use Rattle.pct_demo.proofs.CountedRuns.{counted_is_one}
 use Rattle.pct_tallies.specs.declared.tally.Tally.{Tally}
 use Rattle.pct_tallies.specs.Seeds.{first_seeds}
 use Rattle.pct_sample.specs.Samples.{TallyOf}
 use Rattle.pct_tallies.specs.TallyTexts.{tally_lines}
 use Rattle.pct_sample.proofs.OneTally.{tallies_are_one}
-use Rattle.pct_command.specs.Command.{CommandOutcome, Other, Sampled, Samples}
+use Rattle.pct_judgement.specs.declared.judgement.Judgement.{Judgement}
+use Rattle.pct_judgement.specs.AnswerTexts.{judgement_text}
+use Rattle.pct_judgement.specs.Judgements.{report_part, rules_part}
+use Rattle.pct_judgement.proofs.OneJudgement.{judgements_are_one}
+use Rattle.pct_command.specs.Command.{CommandOutcome, Expected, Other, Sampled, Samples}
+use Rattle.pct_command.proofs.CompleteOutcomes.{is_expect}
 
 -- ---- legal runs
 
@@ -75,6 +81,7 @@ by_job (Some job.Check) input schedule script = Some (0, canon script)
 by_job (Some job.Points) input schedule script = None
 by_job (Some (job.Demo number)) input schedule script = None
 by_job (Some (job.Sample seeds)) input schedule script = None
+by_job (Some job.Expect) input schedule script = None
 by_job None input schedule script = None
 
 -- the code and the text are these
@@ -108,7 +115,7 @@ fitting words input fault needs fits first =
     ∙ ap (λ (f : Option Fault). by_checks true (is_asked keyword.Points words) (asks_demo words) false f) first
 
 spelled : (words : List (List ℕ)) (named : Job) (input : List ℕ) (schedule : List Entry) (script : Script) (code : ℕ) (text : List ℕ)
-    → Asks words named → HasInput named → length input ≤ 16777216 → Spells (script_part words input) script → by_job (Some named) input schedule script ≡ Some (code, text) → Found words input schedule code text
+    → Asks words named → HasScriptInput named → length input ≤ 16777216 → Spells (script_part words input) script → by_job (Some named) input schedule script ≡ Some (code, text) → Found words input schedule code text
 spelled words named input schedule script code text asks has fits spells is =
     Spelled (fitting words input None (job_needs_input words named asks has) fits (spelled_is_faultless _ script spells)) script spells
     (ap (λ (o : Option Job). by_job o input schedule script) (names_job words named asks) ∙ is)
@@ -224,6 +231,33 @@ sample_has_no_other words input schedule code other text told s outcome =
     let undecided : decided_of words input ≡ None = fitting words input None needs s.fits (spelled_is_faultless _ s.script spells) in
     none_found words input schedule other told s.number s.accepted needs undecided (found words input schedule other told outcome)
 
+-- ---- `expect`
+
+-- an input has one judgement, that has one code and one text
+expects_are_one : (words : List (List ℕ)) (input : List ℕ) (code other : ℕ) (text told : List ℕ) → ExpectOutcome words input code text → ExpectOutcome words input other told → (code ≡ other) × (text ≡ told)
+expects_are_one words input code other text told (InputRefused a) (InputRefused b) = (a.code_is ∙ sym b.code_is, a.text_is ∙ sym b.text_is)
+expects_are_one words input code other text told (InputRefused a) (Judged b) = absurd (omega (arith, a.too_long, b.fits))
+expects_are_one words input code other text told (Judged a) (InputRefused b) = absurd (omega (arith, a.fits, b.too_long))
+expects_are_one words input code other text told (Judged a) (Judged b) =
+    let same : a.judgement ≡ b.judgement = judgements_are_one (rules_part input) (report_part input) a.judgement b.judgement a.is_judgement b.is_judgement in
+    (a.code_is ∙ ap (λ (j : Judgement). code_of_judgement j) same ∙ sym b.code_is, a.text_is ∙ ap (λ (j : Judgement). judgement_text j) same ∙ sym b.text_is)
+
+-- words of `expect` have no other outcome
+expect_alone : (words : List (List ℕ)) (input : List ℕ) (schedule : List Entry) (code : ℕ) (text : List ℕ) → asks_expect words ≡ true → CommandOutcome words input schedule code text → ExpectOutcome words input code text
+expect_alone words input schedule code text asked (Sampled s) = absurd (true≢false (sym asked ∙ other_job words (job.Sample s.number) s.accepted refl))
+expect_alone words input schedule code text asked (Expected e) = e
+expect_alone words input schedule code text asked (Other no_expect o) = absurd (true≢false (sym asked ∙ no_expect))
+
+-- nor another code or text, under any schedule
+pub expect_is_one : (words : List (List ℕ)) (input : List ℕ) (schedule : List Entry) (code other : ℕ) (text told : List ℕ) → ExpectOutcome words input code text → CommandOutcome words input schedule other told → (code ≡ other) × (text ≡ told)
+expect_is_one words input schedule code other text told e o =
+    expects_are_one words input code other text told e (expect_alone words input schedule other told (is_expect words input code text e) o)
+
+pub one_is_expect : (words : List (List ℕ)) (input : List ℕ) (schedule : List Entry) (code other : ℕ) (text told : List ℕ) → CommandOutcome words input schedule code text → ExpectOutcome words input other told → (code ≡ other) × (text ≡ told)
+one_is_expect words input schedule code other text told o e =
+    let same = expect_is_one words input schedule other code told text e o in
+    (sym same.0, sym same.1)
+
 -- ---- every command
 
 outcome_alone : (words : List (List ℕ)) (input : List ℕ) (schedule : List Entry) (code other : ℕ) (text told : List ℕ) → Outcome words input schedule code text → Outcome words input schedule other told → (code ≡ other) × (text ≡ told)
@@ -233,6 +267,9 @@ outcome_alone words input schedule code other text told a b =
 
 pub outcome_is_one : (words : List (List ℕ)) (input : List ℕ) (schedule : List Entry) (code other : ℕ) (text told : List ℕ) → CommandOutcome words input schedule code text → CommandOutcome words input schedule other told → (code ≡ other) × (text ≡ told)
 outcome_is_one words input schedule code other text told (Sampled a) (Sampled b) = samples_are_one words input code other text told a b
-outcome_is_one words input schedule code other text told (Sampled a) (Other b) = absurd (sample_has_no_other words input schedule code other text told a b)
-outcome_is_one words input schedule code other text told (Other a) (Sampled b) = absurd (sample_has_no_other words input schedule other code told text b a)
-outcome_is_one words input schedule code other text told (Other a) (Other b) = outcome_alone words input schedule code other text told a b
+outcome_is_one words input schedule code other text told (Sampled a) (Other _ b) = absurd (sample_has_no_other words input schedule code other text told a b)
+outcome_is_one words input schedule code other text told (Other _ a) (Sampled b) = absurd (sample_has_no_other words input schedule other code told text b a)
+outcome_is_one words input schedule code other text told (Other _ a) (Other _ b) = outcome_alone words input schedule code other text told a b
+outcome_is_one words input schedule code other text told (Expected a) b = expect_is_one words input schedule code other text told a b
+outcome_is_one words input schedule code other text told (Sampled a) (Expected b) = one_is_expect words input schedule code other text told (Sampled a) b
+outcome_is_one words input schedule code other text told (Other no_expect a) (Expected b) = one_is_expect words input schedule code other text told (Other no_expect a) b

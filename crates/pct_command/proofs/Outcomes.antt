@@ -1,6 +1,7 @@
 -- What is answered is an outcome.
+use Rattle.pct_names.proofs.Names.{Bool, cond, nat_eq, ◌||◌}
 use Rattle.pct_names.proofs.Names.{◌<◌, [], ap, arith, canon, code_of_verdict, Config, config_for, default_config, demo_number, Entry, Err}
-use Rattle.pct_names.proofs.Names.{false, first_illegal, FirstFault, generated_text, is_accepted, is_asked, keyword_text, length, line_text}
+use Rattle.pct_names.proofs.Names.{false, first_illegal, FirstFault, generated_text, is_asked, keyword_text, length, line_text}
 use Rattle.pct_names.proofs.Names.{List, needs_input, Ok, Option, option_map, option_map_or, Outcome, ParseWhy, points_text, refl}
 use Rattle.pct_names.proofs.Names.{refused_entry, refused_input, refused_schedule, refused_script, refused_words, report, report_of, Run}
 use Rattle.pct_names.proofs.Names.{run_options, RunOptions, sched_of, schedule_part, ScheduleWhy, Script, script_part, Some, Spells, subst}
@@ -21,12 +22,18 @@ use Rattle.pct_tallies.specs.TallyTexts.{tally_lines}
 use Rattle.pct_shared.specs.Schedules.{WorkersSchedule}
 use Rattle.pct_command.specs.declared.answers.Answer.TheVariants as answer
 use Rattle.pct_command.specs.declared.words.Job.{Job}
-use Rattle.pct_command.specs.declared.words.Job.TheVariants.{Run as run_job, Replay, Check, Points, Demo, Sample}
+use Rattle.pct_command.specs.declared.words.Job.TheVariants.{Run as run_job, Replay, Check, Points, Demo, Sample, Expect}
 use Rattle.pct_command.specs.Status.{code_of}
-use Rattle.pct_command.specs.Words.{Asks, job_asked}
-use Rattle.pct_command.specs.Command.{Other, Sampled, IsClosedRun, IsReplayed, IsLawful, IsReportOf, IsAnswer, options_for}
+use Rattle.pct_judgement.specs.declared.judgement.Judgement.{Judgement}
+use Rattle.pct_judgement.specs.declared.judgement.Judgement.TheVariants as judgement
+use Rattle.pct_judgement.specs.AnswerTexts.{judgement_text}
+use Rattle.pct_judgement.specs.Judgements.{IsJudgement, failed_count, report_part, rules_part}
+use Rattle.pct_command.specs.declared.status.Status.TheVariants as status
+use Rattle.pct_command.specs.Expectations.{InputRefused, Judged, code_of_judgement}
+use Rattle.pct_command.specs.Words.{accepts, Asks, asks_expect, job_asked, reads_input}
+use Rattle.pct_command.specs.Command.{Expected, Other, Sampled, IsClosedRun, IsReplayed, IsLawful, IsReportOf, IsAnswer, options_for}
 use Rattle.pct_command.specs.Answer.{HasScript, status_of_verdict, verdict_of_run, text_of_run, summary_of_run, code_of_answer}
-use Rattle.pct_command.proofs.AskedWords.{names_job, part_of_run, part_of_check, part_of_sample, replay_asks_replay}
+use Rattle.pct_command.proofs.AskedWords.{input_is_no_expect, names_job, nothing_asked, other_job, part_of_run, part_of_check, part_of_sample, replay_asks_replay}
 
 -- ---- reports
 
@@ -148,7 +155,7 @@ run-with_options words input options script entries asked has worked =
     let closed_run : IsClosedRun options words input entries (code_of_answer (answer.Ran engine)) (text_of_run engine) = record { script = script; spelled = has.spelled; read_back = read_back; worked = worked; closed = closed_code (verdict_of_run engine) closed } in
     record {
       schedule = entries;
-      is_outcome = Other (run-outcome words input options script entries whole.after asked has whole.is_run);
+      is_outcome = Other (other_job words (run_job options) asked refl) (run-outcome words input options script entries whole.after asked has whole.is_run);
       is_report = λ below. of-job words (run_job options) input entries _ _ asked (closed_run, (is-replayed words input engine whole.after has read_back whole.is_run, is-lawful words input engine whole.after has whole.is_run));
     }
 
@@ -173,7 +180,7 @@ replay-read words input engine after asked has read is_run =
     let read_back = read-back engine after is_run in
     record {
       schedule = [];
-      is_outcome = Other (replay-outcome words input [] engine after asked has read is_run);
+      is_outcome = Other (other_job words Replay asked refl) (replay-outcome words input [] engine after asked has read is_run);
       is_report = λ below. of-job words Replay input [] _ _ asked (read_back ∙ sym read, (is-replayed words input engine after has read_back is_run, is-lawful words input engine after has is_run));
     }
 
@@ -189,7 +196,7 @@ replay-answer words input script config entries engine asked has read same runs 
 pub check-answer : (words : List (List ℕ)) (input : List ℕ) (script : Script) → is_asked keyword.Check words ≡ true → HasScript words input script → IsAnswer words input 0 (canon script)
 check-answer words input script asked has = record {
   schedule = [];
-  is_outcome = Other (outcome.Checked (record { accepted = asked; fits = has.fits; script = script; spelled = subst (λ (part : List ℕ). Spells part script) (part_of_check words input asked) has.spelled; code_is = refl; text_is = refl }));
+  is_outcome = Other (other_job words Check asked refl) (outcome.Checked (record { accepted = asked; fits = has.fits; script = script; spelled = subst (λ (part : List ℕ). Spells part script) (part_of_check words input asked) has.spelled; code_is = refl; text_is = refl }));
   is_report = λ below. of-job words Check input [] _ _ asked tt;
 }
 
@@ -197,7 +204,7 @@ check-answer words input script asked has = record {
 pub points-answer : (words : List (List ℕ)) (input : List ℕ) → is_asked keyword.Points words ≡ true → IsAnswer words input 0 points_text
 points-answer words input asked = record {
   schedule = [];
-  is_outcome = Other (outcome.PointsWritten (record { accepted = asked; code_is = refl; text_is = refl }));
+  is_outcome = Other (other_job words Points asked refl) (outcome.PointsWritten (record { accepted = asked; code_is = refl; text_is = refl }));
   is_report = λ below. of-job words Points input [] _ _ asked tt;
 }
 
@@ -213,7 +220,7 @@ demo-answer words input number script engine asked generated ran =
     ap (summary_of_run number) ran.engine_is ∙ run-summary number (record { script = script; config = default_config; history = engine.history }) ran.after ran.counted.is_run in
     record {
       schedule = [];
-      is_outcome = Other (outcome.Demonstrated (record { number = number; accepted = asked; script = script; generated = generated; entries = engine.history; after = ran.after; is_run = ran.counted; code_is = refl; text_is = same }));
+      is_outcome = Other (other_job words (Demo number) asked refl) (outcome.Demonstrated (record { number = number; accepted = asked; script = script; generated = generated; entries = engine.history; after = ran.after; is_run = ran.counted; code_is = refl; text_is = same }));
       is_report = λ below. of-job words (Demo number) input [] _ _ asked tt;
     }
 
@@ -237,28 +244,63 @@ sample-answer words input seeds script tally asked has counted first = record {
   is_report = λ below. of-job words (Sample seeds) input [] _ _ asked tt;
 }
 
+-- the code of a judgement is that of its status
+tested-code : (b : Bool) → code_of (cond b status.Complete status.ExpectFailed) ≡ cond b 0 14
+tested-code true = refl
+tested-code false = refl
+
+judgement-code : (j : Judgement) → code_of_answer (answer.Judged j) ≡ code_of_judgement j
+judgement-code (judgement.Answered answers) = tested-code (nat_eq (failed_count answers) 0)
+judgement-code (judgement.ExpectRefused line why) = refl
+judgement-code (judgement.ReportRefused line why) = refl
+
+-- a judgement of the report in the input is the answer of `expect`
+pub judgement-answer : (words : List (List ℕ)) (input : List ℕ) (j : Judgement) → asks_expect words ≡ true → length input ≤ 16777216 → IsJudgement (rules_part input) (report_part input) j
+    → IsAnswer words input (code_of_answer (answer.Judged j)) (judgement_text j)
+judgement-answer words input j asked fits is = record {
+  schedule = [];
+  is_outcome = Expected (Judged (record { accepted = asked; fits = fits; judgement = j; is_judgement = is; code_is = judgement-code j; text_is = refl }));
+  is_report = λ below. of-job words Expect input [] _ _ asked tt;
+}
+
 -- ---- refusals
 
 -- a refusal is no report
-refusal : (words : List (List ℕ)) (input : List ℕ) (code : ℕ) (text : List ℕ) → 4 < code → Outcome words input [] code text → IsAnswer words input code text
-refusal words input code text above is_outcome = record { schedule = []; is_outcome = Other is_outcome; is_report = λ below. absurd (omega (arith, above, below)) }
+refusal : (words : List (List ℕ)) (input : List ℕ) (code : ℕ) (text : List ℕ) → 4 < code → asks_expect words ≡ false → Outcome words input [] code text → IsAnswer words input code text
+refusal words input code text above no_expect is_outcome = record { schedule = []; is_outcome = Other no_expect is_outcome; is_report = λ below. absurd (omega (arith, above, below)) }
 
-pub words-answer : (words : List (List ℕ)) (input : List ℕ) → is_accepted words ≡ false → IsAnswer words input 5 (line_text refused_words)
-words-answer words input refused = refusal words input 5 _ (omega arith) (outcome.WordsRefused (record { refused = refused; code_is = refl; text_is = refl }))
+pub words-answer : (words : List (List ℕ)) (input : List ℕ) → accepts words ≡ false → IsAnswer words input 5 (line_text refused_words)
+words-answer words input refused =
+    let nothing = nothing_asked words refused in
+    refusal words input 5 _ (omega arith) nothing.no_expect (outcome.WordsRefused (record { refused = nothing.refused; code_is = refl; text_is = refl }))
 
-pub input-answer : (words : List (List ℕ)) (input : List ℕ) → needs_input words ≡ true → 16777216 < length input → IsAnswer words input 8 (line_text refused_input)
-input-answer words input accepted too_long = refusal words input 8 _ (omega arith) (outcome.InputRefused (record { accepted = accepted; too_long = too_long; code_is = refl; text_is = refl }))
+-- one part holds if the other does not
+or_left : (b : Bool) → (b || false) ≡ true → b ≡ true
+or_left true is = refl
+or_left false is = is
+
+long-answer : (words : List (List ℕ)) (input : List ℕ) (expect : Bool) → asks_expect words ≡ expect → (needs_input words || expect) ≡ true → 16777216 < length input → IsAnswer words input 8 (line_text refused_input)
+long-answer words input true asked reads too_long = record {
+  schedule = [];
+  is_outcome = Expected (InputRefused (record { accepted = asked; too_long = too_long; code_is = refl; text_is = refl }));
+  is_report = λ below. of-job words Expect input [] _ _ asked tt;
+}
+long-answer words input false no_expect reads too_long =
+    refusal words input 8 _ (omega arith) no_expect (outcome.InputRefused (record { accepted = or_left (needs_input words) reads; too_long = too_long; code_is = refl; text_is = refl }))
+
+pub input-answer : (words : List (List ℕ)) (input : List ℕ) → reads_input words ≡ true → 16777216 < length input → IsAnswer words input 8 (line_text refused_input)
+input-answer words input reads too_long = long-answer words input (asks_expect words) refl reads too_long
 
 pub script-answer : (words : List (List ℕ)) (input : List ℕ) (line : ℕ) (why : ParseWhy) → needs_input words ≡ true → length input ≤ 16777216 → FirstFault (script_part words input) line why → IsAnswer words input 6 (line_text (refused_script line why))
 script-answer words input line why accepted fits first =
-    refusal words input 6 _ (omega arith) (outcome.ScriptRefused (record { accepted = accepted; fits = fits; line = line; why = why; first = first; code_is = refl; text_is = refl }))
+    refusal words input 6 _ (omega arith) (input_is_no_expect words accepted) (outcome.ScriptRefused (record { accepted = accepted; fits = fits; line = line; why = why; first = first; code_is = refl; text_is = refl }))
 
 pub schedule-answer : (words : List (List ℕ)) (input : List ℕ) (script : Script) (line : ℕ) (why : ScheduleWhy) → is_asked keyword.Replay words ≡ true → HasScript words input script
     → sched_of (schedule_part input) ≡ Err (line, why) → IsAnswer words input 7 (line_text (refused_schedule line why))
 schedule-answer words input script line why asked has first =
-    refusal words input 7 _ (omega arith) (outcome.ScheduleRefused (record { accepted = asked; fits = has.fits; script = script; spelled = has.spelled; line = line; why = why; first = first; code_is = refl; text_is = refl }))
+    refusal words input 7 _ (omega arith) (other_job words Replay asked refl) (outcome.ScheduleRefused (record { accepted = asked; fits = has.fits; script = script; spelled = has.spelled; line = line; why = why; first = first; code_is = refl; text_is = refl }))
 
 pub entry-answer : (words : List (List ℕ)) (input : List ℕ) (script : Script) (config : Config) (entries : List Entry) (entry_number : ℕ) → is_asked keyword.Replay words ≡ true → HasScript words input script
     → sched_of (schedule_part input) ≡ Ok (config, entries) → first_illegal script config entries ≡ Some entry_number → IsAnswer words input 7 (line_text (refused_entry entry_number))
 entry-answer words input script config entries entry_number asked has read illegal =
-    refusal words input 7 _ (omega arith) (outcome.EntryRefused (record { accepted = asked; fits = has.fits; script = script; spelled = has.spelled; config = config; entries = entries; read = read; entry_number = entry_number; illegal = illegal; code_is = refl; text_is = refl }))
+    refusal words input 7 _ (omega arith) (other_job words Replay asked refl) (outcome.EntryRefused (record { accepted = asked; fits = has.fits; script = script; spelled = has.spelled; config = config; entries = entries; read = read; entry_number = entry_number; illegal = illegal; code_is = refl; text_is = refl }))

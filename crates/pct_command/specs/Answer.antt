@@ -1,5 +1,5 @@
 -- Answers: their statuses and their texts, and what the functions below `command` promise of them.
-use Rattle.std.specs.Prelude.{◌≡◌, ℕ, ◌≤◌, Bool, true, List, [], length, drop, Option, Some, Result, IfOk, IsErrOf}
+use Rattle.std.specs.Prelude.{◌≡◌, ℕ, ◌≤◌, Bool, true, if◌then◌else◌, List, [], length, nat_eq, drop, Option, Some, Result, IfOk, IsErrOf}
 use Rattle.std.specs.Option.{option_map_or}
 use Rattle.std.specs.Io.KnownBytes.{Consumes}
 use Rattle.pct_io.specs.ErrorCounts.{Rose}
@@ -14,9 +14,13 @@ use Rattle.pct_model.specs.Spells.{Spells}
 use Rattle.pct_model.specs.Run.{run, verdict_of}
 use Rattle.pct_model.specs.Report.{report_of}
 use Rattle.pct_model.specs.Demo.{summary_of}
-use Rattle.pct_model.specs.Outcome.{needs_input, script_part, refused_words, refused_input, refused_script, refused_schedule, refused_entry}
+use Rattle.pct_model.specs.Outcome.{script_part, refused_words, refused_input, refused_script, refused_schedule, refused_entry}
 use Rattle.pct_engine.specs.EngineStates.{EngineValue}
 use Rattle.pct_tallies.specs.TallyTexts.{tally_lines}
+use Rattle.pct_judgement.specs.declared.judgement.Judgement.{Judgement}
+use Rattle.pct_judgement.specs.declared.judgement.Judgement.TheVariants as judgement
+use Rattle.pct_judgement.specs.AnswerTexts.{judgement_text}
+use Rattle.pct_judgement.specs.Judgements.{failed_count}
 use Rattle.pct_command.specs.declared.answers.Refusal.{Refusal}
 use Rattle.pct_command.specs.declared.answers.Refusal.TheVariants as refusal
 use Rattle.pct_command.specs.declared.answers.Answer.{Answer}
@@ -27,7 +31,7 @@ use Rattle.pct_command.specs.declared.status.Status.{Status}
 use Rattle.pct_command.specs.declared.status.Status.TheVariants as status
 use Rattle.pct_command.specs.declared.words.Job.{Job}
 use Rattle.pct_command.specs.Status.{code_of}
-use Rattle.pct_command.specs.Words.{parts_of_job}
+use Rattle.pct_command.specs.Words.{parts_of_job, reads_input}
 use Rattle.pct_command.specs.Command.{HasRead, IsAnswer, Reads}
 
 -- ---- the status and the text of an answer
@@ -47,6 +51,12 @@ status_of_verdict verdict.Deadlock = status.Deadlock
 status_of_verdict verdict.Budget = status.Budget
 status_of_verdict (verdict.Undefined why) = status.Undefined
 status_of_verdict verdict.Open = status.Open
+
+-- the status of a judgement
+abbrev pub status_of_judgement : Judgement → Status
+status_of_judgement (judgement.Answered answers) = if nat_eq (failed_count answers) 0 then status.Complete else status.ExpectFailed
+status_of_judgement (judgement.ExpectRefused line why) = status.ExpectRefused
+status_of_judgement (judgement.ReportRefused line why) = status.ReportRefused
 
 -- the verdict of the run of an engine; every engine has a run
 abbrev pub verdict_of_run : EngineValue → Verdict
@@ -68,6 +78,7 @@ status_of_answer (answer.Checked script) = status.Complete
 status_of_answer answer.Points = status.Complete
 status_of_answer (answer.Demonstrated number engine) = status.Complete
 status_of_answer (answer.Sampled seeds tally) = status.Complete
+status_of_answer (answer.Judged j) = status_of_judgement j
 
 -- the code of an answer
 abbrev pub code_of_answer : Answer → ℕ
@@ -82,7 +93,7 @@ line_of_refusal (refusal.Schedule line why) = refused_schedule line why
 line_of_refusal (refusal.Entry entry_number) = refused_entry entry_number
 
 -- the text of an answer: the line of a refusal, the report of a run, the canonical text of a script, the table of points, the summary of a
--- run, or a tally
+-- run, a tally, or a judgement
 abbrev pub text_of_answer : Answer → List ℕ
 text_of_answer (answer.Refused why) = line_text (line_of_refusal why)
 text_of_answer (answer.Ran engine) = text_of_run engine
@@ -90,6 +101,7 @@ text_of_answer (answer.Checked script) = canon script
 text_of_answer answer.Points = points_text
 text_of_answer (answer.Demonstrated number engine) = summary_of_run number engine
 text_of_answer (answer.Sampled seeds tally) = text_of (tally_lines seeds tally)
+text_of_answer (answer.Judged j) = judgement_text j
 
 -- ---- the answer to a text
 
@@ -120,7 +132,7 @@ IsDemonstrated result = IfOk result IsDemonstration
 -- an answer to the words and to the input that was read; if the source reports its bytes, the answer to all that it had left
 pub record AnswersRead (words : List (List ℕ)) (before after : Option (List ℕ)) (a : Answer) : Type 0 where
   pub input : List ℕ
-  pub read : Reads (needs_input words) before after input (code_of_answer a)
+  pub read : Reads (reads_input words) before after input (code_of_answer a)
   pub is_answer : IsAnswer words input (code_of_answer a) (text_of_answer a)
   pub of_all : (left : List ℕ) → before ≡ Some left → IsAnswer words left (code_of_answer a) (text_of_answer a)
 

@@ -1,5 +1,5 @@
 -- What `command` promises, by its answer.
-use Rattle.std.specs.Prelude.{◌≡◌, ◌≢◌, ◌⊎◌, ℕ, ◌<◌, ◌≤◌, Bool, true, List, [], ◌∷◌, length, Option, Some, None, Ok}
+use Rattle.std.specs.Prelude.{◌≡◌, ◌≢◌, ◌⊎◌, ℕ, ◌<◌, ◌≤◌, Bool, true, false, List, [], ◌∷◌, length, Option, Some, None, Ok}
 use Rattle.std.specs.Io.KnownBytes.{Appends, Consumes, IsAtEnd, Keeps}
 use Rattle.pct_io.specs.ErrorCounts.{Rose}
 use Rattle.pct_io.specs.Sinks.{AppendsPrefix}
@@ -31,7 +31,8 @@ use Rattle.pct_command.specs.declared.status.Status.TheVariants as status
 use Rattle.pct_command.specs.declared.words.Job.{Job}
 use Rattle.pct_command.specs.declared.words.Job.TheVariants as job
 use Rattle.pct_command.specs.Status.{code_of}
-use Rattle.pct_command.specs.Words.{job_asked}
+use Rattle.pct_command.specs.Expectations.{ExpectOutcome, HasReadParts, IsJudgedCode}
+use Rattle.pct_command.specs.Words.{asks_expect, job_asked}
 
 -- the source and the sink: the bytes that are left and those that were written, if they are known, and the counts of errors
 pub record Outside : Type 0 where
@@ -61,10 +62,12 @@ pub record Samples (words : List (List ℕ)) (input : List ℕ) (code : ℕ) (te
   pub code_is : code ≡ 0
   pub text_is : text ≡ text_of (tally_lines number tally)
 
--- the outcome of every command: that of `sample` for a script without a fault, or another outcome (Outcome.antt). The cases are disjoint
+-- the outcome of every command: that of `sample` for a script without a fault, that of `expect`, or another outcome (Outcome.antt). The cases
+-- are disjoint
 pub data CommandOutcome (words : List (List ℕ)) (input : List ℕ) (schedule : List Entry) (code : ℕ) (text : List ℕ) : Type 0 where
   Sampled : Samples words input code text → CommandOutcome words input schedule code text
-  Other : Outcome words input schedule code text → CommandOutcome words input schedule code text
+  Expected : ExpectOutcome words input code text → CommandOutcome words input schedule code text
+  Other : asks_expect words ≡ false → Outcome words input schedule code text → CommandOutcome words input schedule code text
 
 -- ---- what is written
 
@@ -116,6 +119,7 @@ IsReportOf (Some job.Check) words input schedule code text = Unit {0}
 IsReportOf (Some job.Points) words input schedule code text = Unit {0}
 IsReportOf (Some (job.Demo number)) words input schedule code text = Unit {0}
 IsReportOf (Some (job.Sample seeds)) words input schedule code text = Unit {0}
+IsReportOf (Some job.Expect) words input schedule code text = Unit {0}
 IsReportOf None words input schedule code text = Unit {0}
 
 -- the code and the text are the outcome of the words and the input, and a report is that of the job that the words name
@@ -199,12 +203,12 @@ pub record IsValid (words : List (List ℕ)) (input : List ℕ) : Type 0 where
   pub schedule : is_asked keyword.Replay words ≡ true → HasLegalSchedule script input
 
 -- if the source reports its bytes and no call failed, the outcome of all that it had left was written whole, or memory ran out;
--- with accepted words a valid input is not refused
+-- with accepted words a valid input is not refused, nor is one of `expect` whose parts are read
 abbrev pub IsComplete : List (List ℕ) → Outside → Outside → Status → Type 0
 IsComplete words before after s =
     (input : List ℕ) → before.left ≡ Some input
     → s ≢ status.ReadFault → s ≢ status.WriteFault
-    → (s ≡ status.NoMemory) ⊎ (WroteAll (IsAnswer words) input before.written after.written (code_of s) × (is_accepted words ≡ true → IsValid words input → code_of s < 5))
+    → (s ≡ status.NoMemory) ⊎ (WroteAll (IsAnswer words) input before.written after.written (code_of s) × (is_accepted words ≡ true → IsValid words input → code_of s < 5) × (asks_expect words ≡ true → HasReadParts input → IsJudgedCode (code_of s)))
 
 -- words, an input and a schedule have at most one outcome
 abbrev pub OutcomesAreOne : Type 0

@@ -1,16 +1,30 @@
 -- The command that the words of the program name.
-use Rattle.std.specs.Prelude.{◌≡◌, ℕ, ◌≤◌, true, if◌then◌else◌, Bool, ◌||◌, List, length, Option, Some, option_map}
+use Rattle.std.specs.Prelude.{◌≡◌, ℕ, ◌≤◌, true, false, if◌then◌else◌, Bool, ◌||◌, List, [], ◌∷◌, length, Option, Some, option_map, bytes_eq, codes}
 use Rattle.std.specs.Option.{option_map_or}
 use Rattle.pct_model.specs.declared.keyword.Keyword.TheVariants as keyword
 use Rattle.pct_model.specs.declared.limits.TheConstants.{MAX_SEEDS}
 use Rattle.pct_model.specs.Schedule.{replay_parts}
 use Rattle.pct_model.specs.Demo.{demo_number}
-use Rattle.pct_model.specs.Outcome.{is_asked, needs_input, asks_demo}
+use Rattle.pct_model.specs.Outcome.{is_asked, is_accepted, needs_input, asks_demo}
 use Rattle.pct_model.specs.Run.{is_config}
 use Rattle.pct_model.specs.RunOptions.{HasWorkers, run_options}
 use Rattle.pct_model.specs.Sample.{sample_number}
 use Rattle.pct_command.specs.declared.words.Job.{Job}
-use Rattle.pct_command.specs.declared.words.Job.TheVariants.{Run, Replay, Check, Points, Demo, Sample}
+use Rattle.pct_command.specs.declared.words.Job.TheVariants.{Run, Replay, Check, Points, Demo, Sample, Expect}
+
+-- the words are `expect` alone
+unfoldable pub asks_expect : List (List ℕ) → Bool
+asks_expect [] = false
+asks_expect (word ∷ []) = bytes_eq word (codes "expect")
+asks_expect (word ∷ next ∷ words) = false
+
+-- the words of a command that reads the input: those of a command on a script (Outcome.antt), or `expect` alone
+abbrev pub reads_input : List (List ℕ) → Bool
+reads_input words = needs_input words || asks_expect words
+
+-- the words of every command
+abbrev pub accepts : List (List ℕ) → Bool
+accepts words = is_accepted words || asks_expect words
 
 -- the words name this job; `run` has the numbers of its options
 abbrev pub Asks : List (List ℕ) → Job → Type 0
@@ -20,6 +34,7 @@ Asks words Check = is_asked keyword.Check words ≡ true
 Asks words Points = is_asked keyword.Points words ≡ true
 Asks words (Demo number) = demo_number words ≡ Some number
 Asks words (Sample seeds) = sample_number words ≡ Some seeds
+Asks words Expect = asks_expect words ≡ true
 
 -- the job that the words name, if they are accepted
 abbrev pub job_asked : List (List ℕ) → Option Job
@@ -28,6 +43,7 @@ job_asked words =
     if is_asked keyword.Replay words then Some Replay
     else if is_asked keyword.Check words then Some Check
     else if is_asked keyword.Points words then Some Points
+    else if asks_expect words then Some Expect
     else option_map_or (λ number. Some (Demo number)) (demo_number words) (option_map (λ seeds. Sample seeds) (sample_number words))
     )
 
@@ -39,6 +55,12 @@ HasInput Check = Unit {0}
 HasInput Points = ⊥
 HasInput (Demo number) = ⊥
 HasInput (Sample seeds) = (1 ≤ seeds) × (seeds ≤ MAX_SEEDS)
+HasInput Expect = Unit {0}
+
+-- the input that the job reads has a script
+abbrev pub HasScriptInput : Job → Type 0
+HasScriptInput Expect = ⊥
+HasScriptInput job = HasInput job
 
 -- where the script's part of an input ends, and where its schedule's part begins
 abbrev pub parts_of_job : Job → List ℕ → ℕ × ℕ
@@ -48,7 +70,8 @@ parts_of_job Check input = (length input, length input)
 parts_of_job Points input = (length input, length input)
 parts_of_job (Demo number) input = (length input, length input)
 parts_of_job (Sample seeds) input = (length input, length input)
+parts_of_job Expect input = (length input, length input)
 
 -- the command that the words name takes memory: all that are accepted do, but `points`
 abbrev pub takes_memory : List (List ℕ) → Bool
-takes_memory words = needs_input words || asks_demo words
+takes_memory words = reads_input words || asks_demo words

@@ -11,13 +11,14 @@ use crate::answers::{Answer, Refusal};
 use pct_cancel::write_points;
 use pct_demo::write_summary;
 use pct_io::{BufferedSink, Failed, Field, Sink, write_line};
+use pct_judgement::write_judgement;
 use pct_model::Keyword;
 use pct_printer::print;
 use pct_report::write_report;
 use pct_tallies::write_tally;
 
 /// Writes an answer: the line of a refusal, the report of a run, the canonical text of a script, the table of cancellation points,
-/// the summary of a run, or a tally of runs.
+/// the summary of a run, a tally of runs, or a judgement.
 pub(crate) fn write_answer<K: Sink>(answer: &Answer, sink: &mut K) -> Result<(), Failed>
     ensures { Writes K.written K.errors K.inners sink.old sink.new (text_of_answer answer.now) result }
 {
@@ -28,6 +29,7 @@ pub(crate) fn write_answer<K: Sink>(answer: &Answer, sink: &mut K) -> Result<(),
         Answer::Points => write_points(sink),
         Answer::Demonstrated { number, engine } => write_summary(*number, engine, sink),
         Answer::Sampled { seeds, tally } => write_tally(*seeds, tally, sink),
+        Answer::Judged(judgement) => write_judgement(judgement, sink),
     }
 }
 

@@ -3,7 +3,7 @@
 ghost use Rattle.std.specs.Prelude.{◌≡◌, ◌≤◌, ◌<◌, ℕ, List, length, IsErr};
 ghost use Rattle.pct_model.specs.declared.limits.TheConstants.{MAX_INPUT};
 ghost use Rattle.pct_command.specs.Answer.{Answered, HasParts};
-ghost use Rattle.pct_command.specs.Words.{Asks, HasInput, parts_of_job};
+ghost use Rattle.pct_command.specs.Words.{Asks, HasInput, HasScriptInput, parts_of_job};
 
 use crate::answers::{Answer, Refusal};
 use crate::replay_command::replay_script;
@@ -12,6 +12,7 @@ use crate::sample_command::sample_script;
 use crate::words::Job;
 use pct_history::split_replay;
 use pct_io::{Gate, NoMemory};
+use pct_judgement::judge_input;
 use pct_model::Script;
 use pct_script::{ParseFault, parse};
 use pct_shared::Runtime;
@@ -25,6 +26,23 @@ pub(crate) fn answer_of<R: Threads + Sync, G: Gate>(
 ) -> Result<Answer, NoMemory>
     requires fits { length text.now ≤ MAX_INPUT }
     requires input { HasInput job }
+    ensures answer { (words : List (List ℕ)) → Asks words job → Answered words text.now result }
+    ensures memory { IsErr result → 0 < length text.now }
+{
+    match job {
+        Job::Expect => Ok(Answer::Judged(judge_input(runtime.alloc, text)?)),
+        _ => answer_with_script(runtime, job, text),
+    }
+}
+
+// The answer of a job to a text that has a script.
+fn answer_with_script<R: Threads + Sync, G: Gate>(
+    runtime: &Runtime<'_, R, G>,
+    job: Job,
+    text: &[u8],
+) -> Result<Answer, NoMemory>
+    requires fits { length text.now ≤ MAX_INPUT }
+    requires input { HasScriptInput job }
     ensures answer { (words : List (List ℕ)) → Asks words job → Answered words text.now result }
     ensures memory { IsErr result → 0 < length text.now }
 {
@@ -57,7 +75,7 @@ fn answer_script<R: Threads + Sync, G: Gate>(
     schedule: &[u8],
 ) -> Result<Answer, NoMemory>
     requires fits { length schedule.now ≤ MAX_INPUT }
-    requires input { HasInput job }
+    requires input { HasScriptInput job }
     ensures { (words : List (List ℕ)) (input : List ℕ) → Asks words job → HasParts words job input script schedule.now → Answered words input result }
 {
     match job {
@@ -65,6 +83,6 @@ fn answer_script<R: Threads + Sync, G: Gate>(
         Job::Replay => replay_script(runtime.alloc, script, schedule),
         Job::Check => Ok(Answer::Checked(script)),
         Job::Sample(seeds) => sample_script(runtime, &script, seeds),
-        Job::Points | Job::Demo(_) => unreachable!(),
+        Job::Points | Job::Demo(_) | Job::Expect => unreachable!(),
     }
 }

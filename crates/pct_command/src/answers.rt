@@ -1,11 +1,12 @@
-//! The answers: a refusal, a run, a script, the table of cancellation points, a run of a generated script, or a tally of runs.
+//! The answers: a refusal, a run, a script, the table of cancellation points, a run of a generated script, a tally of runs, or a judgement.
 
 ghost use Rattle.std.specs.Prelude.{◌≡◌};
-ghost use Rattle.pct_command.specs.Answer.{status_of_answer, status_of_refusal};
+ghost use Rattle.pct_command.specs.Answer.{status_of_answer, status_of_judgement, status_of_refusal};
 ghost use Rattle.pct_command.specs.Status.{IsAnswered};
 
 use crate::status::Status;
 use pct_engine::Engine;
+use pct_judgement::{Judgement, failed_count};
 use pct_model::{ParseWhy, ScheduleWhy, Script};
 use pct_tallies::Tally;
 
@@ -39,6 +40,8 @@ pub(crate) enum Answer {
     Demonstrated { number: u32, engine: Engine },
     /// What is counted of the runs of the script under the seeds from 1 on.
     Sampled { seeds: u32, tally: Tally },
+    /// Which rules hold of the events in a report.
+    Judged(Judgement),
 }
 
 /// Why there is no answer to an input.
@@ -78,6 +81,23 @@ impl Answer {
             | Answer::Points
             | Answer::Demonstrated { .. }
             | Answer::Sampled { .. } => Status::Complete,
+            Answer::Judged(judgement) => status_of_judgement(judgement),
         }
+    }
+}
+
+// The status of a judgement.
+fn status_of_judgement(judgement: &Judgement) -> Status
+    ensures status { result ≡ status_of_judgement judgement.now }
+    ensures answered { IsAnswered result }
+{
+    match judgement {
+        Judgement::Answered(answers) => if failed_count(answers.as_slice()) == 0 {
+            Status::Complete
+        } else {
+            Status::ExpectFailed
+        },
+        Judgement::ExpectRefused { .. } => Status::ExpectRefused,
+        Judgement::ReportRefused { .. } => Status::ReportRefused,
     }
 }

@@ -2,11 +2,11 @@
 
 ghost use Rattle.std.specs.Prelude.{◌≡◌, ◌⊎◌, List, ℕ, true, false, not, map, string_bytes, Ok as Gives, IfOk, IsErrOf};
 ghost use Rattle.pct_model.specs.declared.keyword.Keyword.TheVariants as keyword;
-ghost use Rattle.pct_model.specs.Outcome.{asks_demo, is_asked, is_accepted, needs_input};
+ghost use Rattle.pct_model.specs.Outcome.{asks_demo, is_asked};
 ghost use Rattle.pct_io.specs.Inners.{KeepsInners};
 ghost use Rattle.pct_command.specs.Answer.{AnswersRead, IsDemonstrated, ReadsInput};
 ghost use Rattle.pct_command.specs.Command.{Answers, HasRead, IsAnswer, IsComplete, Records};
-ghost use Rattle.pct_command.specs.Words.{Asks, HasInput, takes_memory};
+ghost use Rattle.pct_command.specs.Words.{Asks, HasInput, accepts, reads_input, takes_memory};
 
 use crate::answer_writer::write_answer;
 use crate::answering::answer_of;
@@ -23,14 +23,15 @@ use std::thread::Threads;
 /// Performs the command that the words name on the bytes of the source, and writes the answer to the sink.
 ///
 /// The words are `run` and its options (`--budget N`, `--passes N`, `--slots N`, `--seed N`, `--workers N` and `--turns N`, each also as
-/// `--budget=N`), `sample` and a number of seeds from 1 to 10,000, `demo` and a number, or `replay`, `check` or `points` alone. `run` reads a
+/// `--budget=N`), `sample` and a number of seeds from 1 to 10,000, `demo` and a number, or `replay`, `check`, `points` or `expect` alone. `run` reads a
 /// script and runs it: 1 to 16 workers take turns, on threads of their own if threads can be made, and a worker that gets a turn makes one
 /// step, which two words of its random stream choose under the seed. When each worker has taken its turns, number 0 makes the steps that are
 /// left, by its own stream. `replay` reads a script, a line `%%`, and a schedule or a whole report, and runs the script under that schedule.
 /// Both write a report. `check` reads a script and writes its canonical text. `sample` reads a script, runs it as `run` does under each seed
 /// from 1 to the number, and writes how many of the runs ended in which way, and the first seed of each. `points` reads nothing and writes the
 /// table of cancellation points (XSH 2.9.5.2). `demo` reads nothing, runs the script that is generated from the number, where the number of
-/// steps so far chooses each step, and writes a summary of the run. A refusal is one line that names the reason.
+/// steps so far chooses each step, and writes a summary of the run. `expect` reads rules, a line `%%` and a report, and writes which of the rules
+/// hold of the events in the report, and how many do not; without the line the report is empty. A refusal is one line that names the reason.
 ///
 /// With one worker the report is that of the seed. With several workers it depends on how their threads run, and which one it is, is not
 /// promised; it names the worker of each step. The gate is called before each turn of a worker. It can delay the worker, and has no other
@@ -49,14 +50,17 @@ use std::thread::Threads;
 /// - `ScheduleRefused`, only from `replay`: the text of the schedule has a fault, or one of its entries is not legal.
 /// - `Complete`, `Deadlock`, `Budget`, `Undefined` or `Open`: the report of a run with this verdict was written. `run` never
 ///   answers `Open`.
+/// - `ExpectRefused`, only from `expect`: the text of the rules has a fault.
+/// - `ReportRefused`, only from `expect`: the text of the report has a fault. Its lines are counted after the line `%%`.
+/// - `Complete` or `ExpectFailed`, from `expect`: which rules hold was written; `Complete` exactly if each of them holds.
 ///
 /// With the answers of this list from `ScriptRefused` on the input was read to its end. `replay` of a report that was written
 /// gives the same bytes again, if the script, the line `%%` and the report have at most 16,777,216 bytes together.
 ///
-/// - `ReadFault` comes only with `run`, `replay`, `check` and `sample`, and only if the source recorded an error in this call. The
-///   sink is unchanged.
+/// - `ReadFault` comes only with `run`, `replay`, `check`, `sample` and `expect`, and only if the source recorded an error in this call.
+///   The sink is unchanged.
 /// - `WriteFault` comes only if the sink recorded an error in this call. A prefix of the text was written.
-/// - `NoMemory` comes only with `run`, `replay`, `check`, `sample` and `demo`. The sink is unchanged.
+/// - `NoMemory` comes only with `run`, `replay`, `check`, `sample`, `expect` and `demo`. The sink is unchanged.
 pub fn command<R: Threads + Sync, S: Source, K: Sink, G: Gate>(
     rt: &R,
     alloc: Global,
@@ -65,19 +69,20 @@ pub fn command<R: Threads + Sync, S: Source, K: Sink, G: Gate>(
     sink: &mut K,
     gate: &G,
 ) -> Status
-    ensures answers { Answers (needs_input (map string_bytes words.now)) (takes_memory (map string_bytes words.now)) (IsAnswer (map string_bytes words.now))
+    ensures answers { Answers (reads_input (map string_bytes words.now)) (takes_memory (map string_bytes words.now)) (IsAnswer (map string_bytes words.now))
         (record { left = S.left source.old; read_errors = S.errors source.old; written = K.written sink.old; write_errors = K.errors sink.old })
         (record { left = S.left source.new; read_errors = S.errors source.new; written = K.written sink.new; write_errors = K.errors sink.new })
         result }
 
-    // Unless a call failed or memory ran out, the whole outcome was written. With accepted words a valid input is not refused.
+    // Unless a call failed or memory ran out, the whole outcome was written. With accepted words a valid input is not refused, nor is one of
+    // `expect` whose parts are read.
     ensures complete { IsComplete (map string_bytes words.now)
         (record { left = S.left source.old; read_errors = S.errors source.old; written = K.written sink.old; write_errors = K.errors sink.old })
         (record { left = S.left source.new; read_errors = S.errors source.new; written = K.written sink.new; write_errors = K.errors sink.new })
         result }
 
     // With words that are not accepted nothing is read.
-    ensures usage { is_accepted (map string_bytes words.now) ≡ false → (source.new ≡ source.old) × ((result ≡ Status.Usage) ⊎ (result ≡ Status.WriteFault)) }
+    ensures usage { accepts (map string_bytes words.now) ≡ false → (source.new ≡ source.old) × ((result ≡ Status.Usage) ⊎ (result ≡ Status.WriteFault)) }
 
     // With `points` nothing is read.
     ensures points { is_asked keyword.Points (map string_bytes words.now) ≡ true → (source.new ≡ source.old) × ((result ≡ Status.Complete) ⊎ (result ≡ Status.WriteFault)) }
@@ -116,9 +121,9 @@ fn answer_words<R: Threads + Sync, S: Source, G: Gate>(
     source: &mut S,
 ) -> Result<Answer, Unanswered>
     ensures answer { IfOk result (λ answer. AnswersRead (map string_bytes words.now) (S.left source.old) (S.left source.new) answer) }
-    ensures read { IsErrOf result Unanswered.ReadFault → needs_input (map string_bytes words.now) ≡ true }
+    ensures read { IsErrOf result Unanswered.ReadFault → reads_input (map string_bytes words.now) ≡ true }
     ensures memory { IsErrOf result Unanswered.NoMemory → takes_memory (map string_bytes words.now) ≡ true }
-    ensures usage { is_accepted (map string_bytes words.now) ≡ false → (source.new ≡ source.old) × (result ≡ Gives (Answer.Refused Refusal.Words)) }
+    ensures usage { accepts (map string_bytes words.now) ≡ false → (source.new ≡ source.old) × (result ≡ Gives (Answer.Refused Refusal.Words)) }
     ensures points { is_asked keyword.Points (map string_bytes words.now) ≡ true → (source.new ≡ source.old) × (result ≡ Gives Answer.Points) }
     ensures demo { asks_demo (map string_bytes words.now) ≡ true → (source.new ≡ source.old) × IsDemonstrated result }
     ensures reads { ReadsInput S.left S.errors (not (asks_demo (map string_bytes words.now))) source.old source.new result }

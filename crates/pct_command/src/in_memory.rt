@@ -4,8 +4,9 @@ ghost use Rattle.std.specs.Prelude.{◌≡◌, ◌<◌, ℕ, List, true, map, st
 ghost use Rattle.pct_model.specs.Outcome.{is_accepted};
 ghost use Rattle.pct_command.specs.Answer.{Answered};
 ghost use Rattle.pct_command.specs.Command.{IsAnswer, IsValid};
+ghost use Rattle.pct_command.specs.Expectations.{HasReadParts, IsJudgedCode};
 ghost use Rattle.pct_command.specs.Status.{code_of};
-ghost use Rattle.pct_command.specs.Words.{Asks, HasInput};
+ghost use Rattle.pct_command.specs.Words.{Asks, HasInput, asks_expect};
 
 use crate::answer_writer::write_answer;
 use crate::answering::answer_of;
@@ -33,6 +34,9 @@ pub fn answer<R: Threads + Sync>(
 
     // With accepted words a valid input is not refused.
     ensures complete { is_accepted (map string_bytes words.now) ≡ true → IsValid (map string_bytes words.now) input.now → IfOk result (λ given. code_of given.0 < 5) }
+
+    // With `expect` an input whose parts are read is not refused.
+    ensures judged { asks_expect (map string_bytes words.now) ≡ true → HasReadParts input.now → IfOk result (λ given. IsJudgedCode (code_of given.0)) }
 {
     let runtime = Runtime {
         rt,

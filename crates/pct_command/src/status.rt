@@ -33,6 +33,12 @@ pub enum Status {
     WriteFault,
     /// 11: memory ran out.
     NoMemory,
+    /// 13: a report is refused.
+    ReportRefused,
+    /// 14: a rule does not hold.
+    ExpectFailed,
+    /// 15: an expectation is refused.
+    ExpectRefused,
     /// 16: a tally is refused.
     TallyRefused,
 }
@@ -69,6 +75,9 @@ impl Status {
             Status::ReadFault => 9,
             Status::WriteFault => 10,
             Status::NoMemory => 11,
+            Status::ReportRefused => 13,
+            Status::ExpectFailed => 14,
+            Status::ExpectRefused => 15,
             Status::TallyRefused => 16,
         }
     }

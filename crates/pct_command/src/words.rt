@@ -2,10 +2,9 @@
 
 ghost use Rattle.std.specs.Prelude.{◌≡◌, map, string_bytes, true, false, IsOk, ◌↔◌, IfOk};
 ghost use Rattle.pct_model.specs.Demo.{demo_number};
-ghost use Rattle.pct_model.specs.Outcome.{is_accepted};
 ghost use Rattle.pct_model.specs.RunOptions.{run_options};
 ghost use Rattle.pct_model.specs.Sample.{sample_number, seed_count};
-ghost use Rattle.pct_command.specs.Words.{Asks};
+ghost use Rattle.pct_command.specs.Words.{Asks, accepts};
 
 use pct_model::{Keyword, MAX_SEEDS, RunOptions};
 use pct_options::read_options;
@@ -30,13 +29,15 @@ pub enum Job {
     Demo(u32),
     /// Run the script of the input under each seed from 1 to this number, and write what is counted of the runs.
     Sample(u32),
+    /// Judge the report in the input by the rules in it, and write the answers.
+    Expect,
 }
 
 /// The command that the words name: `run` with its options, `demo` with a number, `sample` with a number of seeds from 1 to 10,000, or one
-/// word, which is `replay`, `check` or `points`. `Usage` comes with all other words. It allocates no memory.
-#[tactic(auto, unfolding(pct_model::specs::Outcome::is_asked))]
+/// word, which is `replay`, `check`, `points` or `expect`. `Usage` comes with all other words. It allocates no memory.
+#[tactic(auto, unfolding(pct_model::specs::Outcome::is_asked, crate::specs::Words::asks_expect))]
 pub fn read_words(words: &[String]) -> Result<Job, Usage>
-    ensures accepted { IsOk result ↔ (is_accepted (map string_bytes words.now) ≡ true) }
+    ensures accepted { IsOk result ↔ (accepts (map string_bytes words.now) ≡ true) }
     ensures job { IfOk result (λ job. Asks (map string_bytes words.now) job) }
 {
     if let Some(options) = run_options(words) {
@@ -52,6 +53,7 @@ pub fn read_words(words: &[String]) -> Result<Job, Usage>
         [word] if word.as_bytes() == Keyword::Replay.text() => Ok(Job::Replay),
         [word] if word.as_bytes() == Keyword::Check.text() => Ok(Job::Check),
         [word] if word.as_bytes() == Keyword::Points.text() => Ok(Job::Points),
+        [word] if word.as_bytes() == b"expect".as_slice() => Ok(Job::Expect),
         _ => Err(Usage),
     }
 }

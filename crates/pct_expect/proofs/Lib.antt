@@ -2,10 +2,11 @@ mod SpelledLines
 mod Patterns
 mod RulesRead
 mod LinesRead
-mod Failures
-mod EventLines
-mod WordMatches
+pub mod Failures
+pub mod EventLines
+pub mod WordMatches
+pub mod InsertedKeys
 mod ThreadNames
-mod RuleFailures
-mod RuleAnswers
-mod OneAnswer
+pub mod RuleFailures
+pub mod RuleAnswers
+pub mod OneAnswer

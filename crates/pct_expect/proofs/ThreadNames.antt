@@ -1,28 +1,30 @@
 -- The names in a set of threads.
 use Rattle.std.proofs.Common.{Bor}
-use Rattle.std.specs.Bool.{MatchBool}
-use Rattle.std.specs.List.Sorted.{IsPermutation}
-use Rattle.pct_names.proofs.Names.{◌||◌, [], ap, Bool, bytes_eq, false, false≢true, List, list_any, list_any-IsPermutation, map, not, refl, sym, true, ℕ, ◌∙◌, ◌∷◌, ◌≡◌}
+use Rattle.std.proofs.lemmas.Map.Text.{is_eq-slice_cmp}
+use Rattle.std.specs.BTreeMap.{is_at}
+use Rattle.std.specs.BTreeSet.{insert_key}
+use Rattle.std.specs.Cmp.Lexicographic.{slice_cmp}
+use Rattle.std.specs.Ordering.{is_eq, nat_cmp}
+use Rattle.std.specs.declared.cmp.Ordering.{Ordering}
+use Rattle.pct_names.proofs.Names.{◌||◌, [], ap, ap₂, Bool, bytes_eq, List, list_any, map, refl, sym, ℕ, ◌∙◌, ◌∷◌, ◌≡◌}
 use Rattle.pct_model.proofs.Bytes.{same_bytes}
+use Rattle.pct_expect.proofs.InsertedKeys.{any_inserted}
 
-pub any_seen : (name : List ℕ) (keys : List (Bor (List ℕ))) → list_any (λ key. bytes_eq name key.now) keys ≡ list_any (bytes_eq name) (map (λ key. key.now) keys)
+abbrev order_of : Bor (List ℕ) → Bor (List ℕ) → Ordering
+order_of x y = slice_cmp nat_cmp x.now y.now
+
+pub any_seen : (name : List ℕ) (keys : List (Bor (List ℕ))) → list_any (is_at (λ key. slice_cmp nat_cmp name key.now)) keys ≡ list_any (bytes_eq name) (map (λ key. key.now) keys)
 any_seen name [] = refl
-any_seen name (key ∷ keys) = ap (λ (t : Bool). bytes_eq name key.now || t) (any_seen name keys)
+any_seen name (key ∷ keys) = ap₂ (λ (s t : Bool). s || t) (is_eq-slice_cmp name key.now) (any_seen name keys)
 
-from_not : (t : Bool) → false ≡ not t → t ≡ true
-from_not true e = refl
-from_not false e = absurd (false≢true e)
+any_named : (name : List ℕ) (keys : List (Bor (List ℕ))) → list_any (λ key. bytes_eq name key.now) keys ≡ list_any (bytes_eq name) (map (λ key. key.now) keys)
+any_named name [] = refl
+any_named name (key ∷ keys) = ap (λ (t : Bool). bytes_eq name key.now || t) (any_named name keys)
 
--- a name that is there, put in again
-known_again : (other name : List ℕ) (names : List (List ℕ)) (t : Bool) → bytes_eq other name ≡ t → list_any (bytes_eq name) names ≡ true → list_any (bytes_eq other) names ≡ (t || list_any (bytes_eq other) names)
-known_again other name names true is there = ap (λ (n : List ℕ). list_any (bytes_eq n) names) (same_bytes other name is) ∙ there
-known_again other name names false is there = refl
-
-pub put_in : (old new : List (Bor (List ℕ))) (key : Bor (List ℕ)) (added : Bool) → MatchBool added (IsPermutation (key ∷ old) new) (new ≡ old) → added ≡ not (list_any (λ k. bytes_eq key.now k.now) old) → (other : List ℕ)
+pub put_in : (old new : List (Bor (List ℕ))) (key : Bor (List ℕ)) → new ≡ insert_key order_of old key → (other : List ℕ)
     → list_any (bytes_eq other) (map (λ k. k.now) new) ≡ (bytes_eq other key.now || list_any (bytes_eq other) (map (λ k. k.now) old))
-put_in old new key true keys is other =
-    sym (any_seen other new) ∙ sym (list_any-IsPermutation (λ k. bytes_eq other k.now) (key ∷ old) new keys) ∙ ap (λ (t : Bool). bytes_eq other key.now || t) (any_seen other old)
-put_in old new key false keys is other =
-    let there = sym (any_seen key.now old) ∙ from_not (list_any (λ k. bytes_eq key.now k.now) old) is in
+put_in old new key keys other =
     ap (λ (ks : List (Bor (List ℕ))). list_any (bytes_eq other) (map (λ k. k.now) ks)) keys
-    ∙ known_again other key.now (map (λ k. k.now) old) (bytes_eq other key.now) refl there
+    ∙ sym (any_named other (insert_key order_of old key))
+    ∙ any_inserted order_of (λ (k : Bor (List ℕ)). bytes_eq other k.now) (λ k x same. ap (bytes_eq other) (same_bytes k.now x.now (sym (is_eq-slice_cmp k.now x.now) ∙ ap is_eq same))) old key
+    ∙ ap (λ (t : Bool). bytes_eq other key.now || t) (any_named other old)

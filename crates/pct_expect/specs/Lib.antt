@@ -1,6 +1,7 @@
 pub mod AnswerLaws
 pub mod Answers
 pub mod Events
+pub mod Faults
 pub mod Gives
 pub mod Parts
 pub mod Reading

@@ -2,6 +2,7 @@
 
 ghost use Rattle.std.specs.Prelude.{◌≡◌};
 ghost use Rattle.pct_expect.specs.declared.fault.ExpectFault.TheVariants.{NoMemory};
+ghost use Rattle.pct_expect.specs.Faults.{why_text};
 
 use std::alloc::{AllocError, AllocFailed};
 use thiserror::Error;
@@ -15,6 +16,20 @@ pub enum ExpectWhy {
     TooMany,
     /// There is no rule.
     NoRule,
+}
+
+impl ExpectWhy {
+    /// The word for the reason.
+    #[tactic(auto, unfolding(crate::specs::Faults::why_text))]
+    pub fn text(self) -> &'static [u8]
+        ensures { result.now ≡ why_text self }
+    {
+        match self {
+            ExpectWhy::BadLine => b"bad_line",
+            ExpectWhy::TooMany => b"too_many",
+            ExpectWhy::NoRule => b"no_rule",
+        }
+    }
 }
 
 /// Why `read_expect` returned no expectations.

@@ -5,13 +5,13 @@ ghost use Rattle.std.specs.List.{list_any};
 
 use pct_io::NoMemory;
 use std::alloc::Global;
-use std::collections::HashSet;
+use std::collections::BTreeSet;
 use std::marker::Model;
 
 /// A set of threads, each named by the first word of its events. Contracts see the list of the names.
 #[derive(Drop)]
 pub(crate) struct ThreadSet<'a> {
-    names: HashSet<&'a [u8]>,
+    names: BTreeSet<&'a [u8]>,
 }
 
 impl<'a> Model for ThreadSet<'a> {
@@ -28,12 +28,12 @@ impl<'a> ThreadSet<'a> {
         ensures { (name : List ℕ) → list_any (bytes_eq name) result ≡ false }
     {
         ThreadSet {
-            names: HashSet::new(alloc),
+            names: BTreeSet::new(alloc),
         }
     }
 
     /// Whether the thread is in the set.
-    pub(crate) fn contains(&self, name: &[u8]) -> bool
+    pub(crate) fn contains(&self, name: &'a [u8]) -> bool
         ensures { result ≡ list_any (bytes_eq name.now) self.now }
     {
         self.names.contains(&name)

@@ -14,9 +14,10 @@ use Rattle.pct_tallies.specs.Seeds.{IsRange, is_range, seed_count}
 use Rattle.pct_inspection.specs.declared.words.Inspection.{Inspection}
 use Rattle.pct_inspection.specs.declared.words.Inspection.TheVariants as inspection
 use Rattle.pct_inspection.specs.declared.words.View.{View}
-use Rattle.pct_inspection.specs.Words.{allows, continuation_asked, inspection_asked, is_tallied, seed_in, seeds_asked, sum_asked, tally_asked, view_asked, view_named}
+use Rattle.pct_inspection.specs.Words.{allows, config_asked, continuation_asked, inspection_asked, is_tallied, seed_count as survey_seeds, seed_in, seeds_asked, sum_asked, survey_asked, tally_asked, view_asked, view_named}
 use Rattle.pct_inspection.specs.Answer.{AsksFor}
 use Rattle.pct_inspection.specs.TallyOutcomes.{IsAccepted, IsTallied}
+use Rattle.pct_inspection.proofs.AskedSurveys.{asked_survey}
 
 -- a range for which a tally is made, whose last seed has at most 64 bits
 pub record AreAsked (seeds : Seeds) : Type 0 where
@@ -40,6 +41,7 @@ is_tally (inspection.Tally seeds) = true
 is_tally (inspection.Continue seed) = false
 is_tally (inspection.Show shown) = false
 is_tally inspection.Sum = false
+is_tally (inspection.Survey count config) = false
 
 module _ (seeds : Seeds) where
   -- another command is no tally
@@ -55,6 +57,15 @@ module _ (seeds : Seeds) where
   not_shown : (words : List (List ℕ)) (view : Option View) → option_and_then (view_asked words) view ≡ Some (inspection.Tally seeds) → ⊥
   not_shown words (Some shown) is = no_tally (allows shown words) (inspection.Show shown) refl is
   not_shown words None is = none-some (inspection.Tally seeds) is
+
+  not_surveyed : (words : List (List ℕ)) → survey_asked words ≡ Some (inspection.Tally seeds) → ⊥
+  unfolding survey_asked
+  not_surveyed [] is = none-some (inspection.Tally seeds) is
+  not_surveyed (count ∷ options) is =
+      option_and_then_some (λ n. option_and_then (λ config. Some (inspection.Survey n config)) (config_asked options)) (survey_seeds count) (inspection.Tally seeds) is
+      (λ n _ rest.
+      option_and_then_some (λ config. Some (inspection.Survey n config)) (config_asked options) (inspection.Tally seeds) rest
+      (λ config _ same. true≢false (sym (ap is_tally (same_Some (inspection.Survey n config) (inspection.Tally seeds) same)))))
 
   -- a seed has at most 64 bits
   seed_fits : (text : List ℕ) (n : ℕ) → seed_in text ≡ Some n → n < 2 ^ 64
@@ -86,18 +97,19 @@ module _ (seeds : Seeds) where
       seeds_in _ = seeds
   tally_is (first ∷ last ∷ next ∷ words) is = absurd (none-some (inspection.Tally seeds) is)
 
-  by_command : (continues tallies sums : Bool) (words : List (List ℕ)) (view : Option View)
-      → cond continues (continuation_asked words) (cond tallies (tally_asked words) (cond sums (sum_asked words) (option_and_then (view_asked words) view))) ≡ Some (inspection.Tally seeds) → AreAsked seeds
-  by_command true tallies sums words view is = absurd (not_continued words is)
-  by_command false true sums words view is = tally_is words is
-  by_command false false true words view is = absurd (no_tally (is_empty words) inspection.Sum refl is)
-  by_command false false false words view is = absurd (not_shown words view is)
+  by_command : (continues tallies sums surveys : Bool) (words : List (List ℕ)) (view : Option View)
+      → cond continues (continuation_asked words) (cond tallies (tally_asked words) (cond sums (sum_asked words) (cond surveys (survey_asked words) (option_and_then (view_asked words) view)))) ≡ Some (inspection.Tally seeds) → AreAsked seeds
+  by_command true tallies sums surveys words view is = absurd (not_continued words is)
+  by_command false true sums surveys words view is = tally_is words is
+  by_command false false true surveys words view is = absurd (no_tally (is_empty words) inspection.Sum refl is)
+  by_command false false false true words view is = absurd (not_surveyed words is)
+  by_command false false false false words view is = absurd (not_shown words view is)
 
 -- the seeds that words ask a tally for
 pub asked_seeds : (words : List (List ℕ)) (seeds : Seeds) → AsksFor words (inspection.Tally seeds) → AreAsked seeds
 unfolding inspection_asked
 asked_seeds [] seeds is = absurd (none-some (inspection.Tally seeds) is)
-asked_seeds (command ∷ words) seeds is = by_command seeds (bytes_eq command (codes "continue")) (bytes_eq command (codes "tally")) (bytes_eq command (codes "sum")) words (view_named command) is
+asked_seeds (command ∷ words) seeds is = by_command seeds (bytes_eq command (codes "continue")) (bytes_eq command (codes "tally")) (bytes_eq command (codes "sum")) (bytes_eq command (codes "survey")) words (view_named command) is
 
 -- what words ask for is accepted
 pub is_accepted_asked : (words : List (List ℕ)) (asked : Inspection) → AsksFor words asked → IsAccepted asked
@@ -105,3 +117,4 @@ is_accepted_asked words (inspection.Tally seeds) is = (asked_seeds words seeds i
 is_accepted_asked words (inspection.Continue seed) is = tt
 is_accepted_asked words (inspection.Show shown) is = tt
 is_accepted_asked words inspection.Sum is = tt
+is_accepted_asked words (inspection.Survey seeds config) is = asked_survey words seeds config is

@@ -1,9 +1,12 @@
 -- The outcome of an input that is not refused, and the answer to all that a source had left.
-use Rattle.pct_names.proofs.Names.{◌<◌, ap, Appends, arith, code_of_verdict, Config, Entry, false, first_illegal, FirstFault, inr, length, List, None, none-some, Ok}
+use Rattle.pct_names.proofs.Names.{◌<◌, ◌⊎◌, ap, Appends, arith, Bool, code_of_verdict, cond, Config, Entry, false, first_illegal, FirstFault, inl, inr, length, List, None, none-some, Ok}
 use Rattle.pct_names.proofs.Names.{Option, ParseWhy, refl, Run, same_Some, Script, Some, Spells, subst, sym, true, Verdict, verdict_of, ℕ, ◌∙◌, ◌≡◌, ◌≤◌}
 use Rattle.std.proofs.lemmas.Bool.{true≢false}
 use Rattle.pct_model.specs.declared.stop.Verdict.TheVariants as verdict
+use Rattle.pct_expect.specs.declared.rule.Rule.{Rule}
+use Rattle.pct_expect.specs.Reading.{expects_in}
 use Rattle.pct_grammar.proofs.Scripts.{spells_one_script}
+use Rattle.pct_survey.specs.Surveys.{has_failure}
 use Rattle.pct_tallies.specs.declared.range_tally.PlacedTally.{PlacedTally}
 use Rattle.pct_tallies.specs.declared.range_tally.RangeTally.{RangeTally}
 use Rattle.pct_tallies.specs.declared.seeds.Seeds.{Seeds}
@@ -20,7 +23,8 @@ use Rattle.pct_inspection.specs.declared.words.Inspection.TheVariants as inspect
 use Rattle.pct_inspection.specs.declared.words.View.{View}
 use Rattle.pct_inspection.specs.declared.words.View.TheVariants as view
 use Rattle.pct_inspection.specs.Words.{inspection_asked}
-use Rattle.pct_inspection.specs.Inspection.{script_in, prefix_for, code_by, code_after, follows_prefix, script_asked, Continues, FollowsPrefix, IsAcceptedCode, IsCodeOfRun, IsInspected, IsValidPrefix, IsWhole}
+use Rattle.pct_inspection.specs.Inputs.{expectation_in, script_in}
+use Rattle.pct_inspection.specs.Inspection.{prefix_for, code_by, code_after, follows_prefix, script_asked, Continues, FollowsPrefix, IsAcceptedCode, IsCodeOfRun, IsInspected, IsValidPrefix, IsWhole}
 use Rattle.pct_inspection.specs.Inspection as outcome
 use Rattle.pct_inspection.specs.Answer.{AnswersRead, AsksFor, code_of_answer, status_of_answer, text_of_answer}
 use Rattle.pct_inspection.proofs.Inputs.{follows_accepted, follows_script, is_accepted, kind, same_kind}
@@ -105,6 +109,8 @@ code_of_run words input code text follows valid (outcome.Tallied tallies) = absu
 code_of_run words input code text follows valid (outcome.TalliesRefused refuses) = absurd (true≢false (sym follows ∙ ap follows_prefix refuses.asked))
 code_of_run words input code text follows valid (outcome.SumRefused refuses) = absurd (true≢false (sym follows ∙ ap follows_prefix refuses.asked))
 code_of_run words input code text follows valid (outcome.Summed sums) = absurd (true≢false (sym follows ∙ ap follows_prefix sums.asked))
+code_of_run words input code text follows valid (outcome.ExpectationRefused refuses) = absurd (true≢false (sym follows ∙ ap follows_prefix refuses.asked))
+code_of_run words input code text follows valid (outcome.Surveyed surveys) = absurd (true≢false (sym follows ∙ ap follows_prefix surveys.asked))
 
 -- ---- the code of a tally
 
@@ -131,6 +137,8 @@ module _ (words : List (List ℕ)) (input : List ℕ) (fits : length input ≤ 1
   tally_code seeds script asked spelled code text (outcome.TalliesRefused refuses) = let same = same_kind words (inspection.Tally seeds) inspection.Sum asked refuses.asked in absurd (omega (arith, same))
   tally_code seeds script asked spelled code text (outcome.SumRefused refuses) = let same = same_kind words (inspection.Tally seeds) inspection.Sum asked refuses.asked in absurd (omega (arith, same))
   tally_code seeds script asked spelled code text (outcome.Summed sums) = sums.code_is
+  tally_code seeds script asked spelled code text (outcome.ExpectationRefused refuses) = let same = same_kind words (inspection.Tally seeds) (inspection.Survey refuses.seeds refuses.config) asked refuses.asked in absurd (omega (arith, same))
+  tally_code seeds script asked spelled code text (outcome.Surveyed surveys) = let same = same_kind words (inspection.Tally seeds) (inspection.Survey surveys.seeds surveys.config) asked surveys.asked in absurd (omega (arith, same))
 
   sum_code : (tallies : List PlacedTally) (total : RangeTally) → AsksFor words inspection.Sum → tallies_in input ≡ Ok tallies → IsTotalOf tallies (Ok total) → (code : ℕ) (text : List ℕ) → IsInspected words input code text → code ≡ 0
   sum_code tallies total asked read summed code text (outcome.WordsRefused refuses) = absurd (true≢false (sym (is_accepted words inspection.Sum asked) ∙ refuses.refused))
@@ -148,6 +156,35 @@ module _ (words : List (List ℕ)) (input : List ℕ) (fits : length input ≤ 1
   sum_code tallies total asked read summed code text (outcome.SumRefused refuses) =
       absurd (sum_or_refusal input tallies refuses.tallies total (refuses.line, refuses.why) read summed refuses.read refuses.refused)
   sum_code tallies total asked read summed code text (outcome.Summed sums) = sums.code_is
+  sum_code tallies total asked read summed code text (outcome.ExpectationRefused refuses) = let same = same_kind words inspection.Sum (inspection.Survey refuses.seeds refuses.config) asked refuses.asked in absurd (omega (arith, same))
+  sum_code tallies total asked read summed code text (outcome.Surveyed surveys) = let same = same_kind words inspection.Sum (inspection.Survey surveys.seeds surveys.config) asked surveys.asked in absurd (omega (arith, same))
+
+  -- words that ask for a survey have no outcome of another kind
+  not_surveyed : (seeds : ℕ) (config : Config) (other : Inspection) {P : Type 0} → AsksFor words (inspection.Survey seeds config) → AsksFor words other → kind other < 4 → P
+  not_surveyed seeds config other asked also below = let same = same_kind words (inspection.Survey seeds config) other asked also in absurd (omega (arith, same, below))
+
+  code_by_test : (failed : Bool) (code : ℕ) → code ≡ cond failed 14 0 → (code ≡ 0) ⊎ (code ≡ 14)
+  code_by_test true code is = inr is
+  code_by_test false code is = inl is
+
+  survey_code : (seeds : ℕ) (config : Config) (script : Script) (rules : List Rule) → AsksFor words (inspection.Survey seeds config) → Spells (script_in input) script → expects_in (expectation_in input) ≡ Ok rules
+      → (code : ℕ) (text : List ℕ) → IsInspected words input code text → (code ≡ 0) ⊎ (code ≡ 14)
+  survey_code seeds config script rules asked spelled read code text (outcome.WordsRefused refuses) = absurd (true≢false (sym (is_accepted words (inspection.Survey seeds config) asked) ∙ refuses.refused))
+  survey_code seeds config script rules asked spelled read code text (outcome.InputRefused refuses) = absurd (omega (arith, fits, refuses.too_long))
+  survey_code seeds config script rules asked spelled read code text (outcome.ScriptRefused refuses) =
+      absurd (no_fault (inspection_asked words) input refuses.part script (script_in input) refuses.line refuses.why (ap (λ (o : Option Inspection). script_asked o input) asked) spelled refuses.asked refuses.first)
+  survey_code seeds config script rules asked spelled read code text (outcome.PrefixRefused refuses) = absurd (true≢false (sym refuses.accepted ∙ ap follows_prefix asked))
+  survey_code seeds config script rules asked spelled read code text (outcome.Continued goes_on) = not_surveyed seeds config (inspection.Continue goes_on.seed) asked goes_on.asked (omega arith)
+  survey_code seeds config script rules asked spelled read code text (outcome.Traced traces) = not_surveyed seeds config (inspection.Show (view.Steps form.Trace)) asked traces.asked (omega arith)
+  survey_code seeds config script rules asked spelled read code text (outcome.Listed lists) = not_surveyed seeds config (inspection.Show view.Choices) asked lists.asked (omega arith)
+  survey_code seeds config script rules asked spelled read code text (outcome.Valued lists) = not_surveyed seeds config (inspection.Show view.States) asked lists.asked (omega arith)
+  survey_code seeds config script rules asked spelled read code text (outcome.Drawn draws) = not_surveyed seeds config (inspection.Show (view.Steps draws.shown)) asked draws.asked (omega arith)
+  survey_code seeds config script rules asked spelled read code text (outcome.Tallied tallies) = inl tallies.code_is
+  survey_code seeds config script rules asked spelled read code text (outcome.TalliesRefused refuses) = not_surveyed seeds config inspection.Sum asked refuses.asked (omega arith)
+  survey_code seeds config script rules asked spelled read code text (outcome.SumRefused refuses) = not_surveyed seeds config inspection.Sum asked refuses.asked (omega arith)
+  survey_code seeds config script rules asked spelled read code text (outcome.Summed sums) = inl sums.code_is
+  survey_code seeds config script rules asked spelled read code text (outcome.ExpectationRefused refuses) = absurd (ok_or_err (expects_in (expectation_in input)) rules (refuses.line, refuses.why) read refuses.first)
+  survey_code seeds config script rules asked spelled read code text (outcome.Surveyed surveys) = code_by_test (has_failure surveys.survey) code surveys.code_is
 
 -- ---- all that a source had left
 
@@ -159,5 +196,6 @@ complete words before after a read wrote = λ input has no_read_fault no_write_f
       run = λ follows valid. code_of_run words input _ _ follows valid answer;
       tally = λ seeds script asked fits spelled. tally_code words input fits seeds script asked spelled _ _ answer;
       sum = λ tallies total asked fits read summed. sum_code words input fits tallies total asked read summed _ _ answer;
+      survey = λ seeds config script rules asked fits spelled read. survey_code words input fits seeds config script rules asked spelled read _ _ answer;
     } in
     inr (record { text = text_of_answer a; answer = answer; wrote = wrote }, accepted)

@@ -5,7 +5,8 @@ use Rattle.std.proofs.lemmas.Bool.{true≢false}
 use Rattle.pct_inspection.specs.declared.words.Inspection.{Inspection}
 use Rattle.pct_inspection.specs.declared.words.Inspection.TheVariants as inspection
 use Rattle.pct_inspection.specs.Words.{is_inspection}
-use Rattle.pct_inspection.specs.Inspection.{script_in, prefix_in, follows_prefix, script_asked}
+use Rattle.pct_inspection.specs.Inputs.{script_in, prefix_in}
+use Rattle.pct_inspection.specs.Inspection.{follows_prefix, script_asked}
 use Rattle.pct_inspection.specs.TallyOutcomes.{IsOfScript, parts_for}
 use Rattle.pct_inspection.specs.Answer.{AsksFor, HasParts}
 
@@ -15,12 +16,13 @@ is_accepted words what asked = ap is_some asked
 
 -- ---- what the words ask for
 
--- what is asked for: 1 for what follows a prefix, 2 for a tally, 3 for a sum
+-- what is asked for: 1 for what follows a prefix, 2 for a tally, 3 for a sum, 4 for a survey
 abbrev pub kind : Inspection → ℕ
 kind (inspection.Continue seed) = 1
 kind (inspection.Show shown) = 1
 kind (inspection.Tally seeds) = 2
 kind inspection.Sum = 3
+kind (inspection.Survey seeds config) = 4
 
 -- words ask for one thing
 pub same_kind : (words : List (List ℕ)) (one other : Inspection) → AsksFor words one → AsksFor words other → kind one ≡ kind other
@@ -36,6 +38,7 @@ follows_script (Some (inspection.Continue seed)) input follows = refl
 follows_script (Some (inspection.Show shown)) input follows = refl
 follows_script (Some (inspection.Tally seeds)) input follows = absurd (true≢false (sym follows))
 follows_script (Some inspection.Sum) input follows = absurd (true≢false (sym follows))
+follows_script (Some (inspection.Survey seeds config)) input follows = absurd (true≢false (sym follows))
 follows_script None input follows = absurd (true≢false (sym follows))
 
 -- words that ask for something of a script are accepted
@@ -65,6 +68,7 @@ script_part (inspection.Continue seed) input parts of_script same = ap (λ (p : 
 script_part (inspection.Show shown) input parts of_script same = ap (λ (p : ℕ × ℕ). Some (take p.0 input)) (sym same)
 script_part (inspection.Tally seeds) input parts of_script same = ap Some (sym (take-length input)) ∙ ap (λ (p : ℕ × ℕ). Some (take p.0 input)) (sym same)
 script_part inspection.Sum input parts of_script same = absurd of_script
+script_part (inspection.Survey seeds config) input parts of_script same = ap (λ (p : ℕ × ℕ). Some (take p.0 input)) (sym same)
 
 -- what is asked for is of a script, unless it is a sum
 pub of_script : (asked : Inspection) → asked ≢ inspection.Sum → IsOfScript asked
@@ -72,3 +76,4 @@ of_script (inspection.Continue seed) no_sum = tt
 of_script (inspection.Show shown) no_sum = tt
 of_script (inspection.Tally seeds) no_sum = tt
 of_script inspection.Sum no_sum = no_sum refl
+of_script (inspection.Survey seeds config) no_sum = tt

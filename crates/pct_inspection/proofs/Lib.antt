@@ -5,6 +5,8 @@ mod CompleteOutcomes
 mod Views
 mod Selections
 mod OneInspection
+mod OptionWords
+mod AskedSurveys
 mod AskedSeeds
 mod Digests
 mod SumsOfTallies

@@ -1,5 +1,5 @@
 -- Words and an input have one outcome of an inspection at the most.
-use Rattle.pct_names.proofs.Names.{◌++◌, ap, Bool, code_of_verdict, Config, Entry, Err, false, Fault, first_fault, first_illegal, is_some, le-ltb, length, line_text, List}
+use Rattle.pct_names.proofs.Names.{◌++◌, ap, Bool, code_of_verdict, Config, config_for, Entry, Err, false, Fault, first_fault, first_illegal, is_some, le-ltb, length, line_text, List}
 use Rattle.pct_names.proofs.Names.{nat_lt, None, none-some, Ok, Option, option_and_then, option_map, refl, refused_input, refused_schedule, refused_script, refused_words, report, Result}
 use Rattle.pct_names.proofs.Names.{Run, run, same_Some, Schedule, Script, Some, some_pair_parts, Spells, subst, sym, text_of, true, verdict_of, ℕ, ◌∙◌, ◌≡◌, ◌≤◌}
 use Rattle.std.proofs.lemmas.Bool.{lt-ltb, true≢false}
@@ -27,10 +27,18 @@ use Rattle.pct_inspection.specs.declared.words.View.{View}
 use Rattle.pct_inspection.specs.declared.words.View.TheVariants as view
 use Rattle.pct_inspection.specs.Words.{inspection_asked, is_inspection}
 use Rattle.pct_inspection.specs.TallyOutcomes.{IsTotalIn, NotRead, refused_tally, subject_of, Tallies, Totalled}
-use Rattle.pct_inspection.specs.Inspection.{script_in, prefix_for, notice, code_by, asks_to_draw, follows_prefix, script_asked, Continues, FollowsPrefix, InspectionsAreOne, IsInspected, code_after, entries_in, is_drawn}
+use Rattle.pct_inspection.specs.Inputs.{expectation_in, script_in}
+use Rattle.pct_inspection.specs.Inspection.{prefix_for, notice, code_by, asks_to_draw, follows_prefix, script_asked, Continues, FollowsPrefix, InspectionsAreOne, IsInspected, code_after, entries_in, is_drawn}
 use Rattle.pct_inspection.specs.Inspection as outcome
 use Rattle.pct_inspection.proofs.Inputs.{follows_script, script_accepted}
-use Rattle.pct_inspection.proofs.Totals.{totals_in_are_one}
+use Rattle.pct_inspection.proofs.Totals.{ok_or_err, same_err, totals_in_are_one}
+use Rattle.pct_inspection.specs.SurveyOutcomes.{RefusesExpectation, Surveys, code_of_survey, refused_expect}
+use Rattle.pct_expect.specs.declared.fault.ExpectWhy.{ExpectWhy}
+use Rattle.pct_expect.specs.declared.rule.Rule.{Rule}
+use Rattle.pct_expect.specs.Reading.{expects_in}
+use Rattle.pct_survey.proofs.OneSurvey.{surveys_are_one}
+use Rattle.pct_survey.specs.Surveys.{IsSurveyOf}
+use Rattle.pct_survey.specs.SurveyTexts.{survey_text}
 
 -- ---- the code and the text, by the order of the checks
 
@@ -89,6 +97,11 @@ abbrev told_of : Result RangeTally Refusal → ℕ × List ℕ
 told_of (Ok total) = (0, text_of (range_lines total))
 told_of (Err fault) = (16, line_text (refused_tally fault.0 fault.1))
 
+-- the survey of an expectation, or its fault
+data OfSurvey (words : List (List ℕ)) (input : List ℕ) (code : ℕ) (text : List ℕ) : Type 0 where
+  Faulty : RefusesExpectation words input code text → OfSurvey words input code text
+  Whole : Surveys words input code text → OfSurvey words input code text
+
 module _ (words : List (List ℕ)) (input : List ℕ) where
   -- what is shown of a script
   abbrev shown : Script → Option (ℕ × List ℕ)
@@ -107,6 +120,7 @@ module _ (words : List (List ℕ)) (input : List ℕ) where
     WentOn : IsAnswered true → (script : Script) → Spells (script_in input) script → shown script ≡ None → (seed : ℕ) → inspection_asked words ≡ Some (inspection.Continue seed)
         → (given : Config × List Entry) → prefix_for script input ≡ Ok given → GoesOn script seed given code text → Found code text
     Counted : IsAnswered false → Tallies words input code text → Found code text
+    Judged : IsAnswered false → OfSurvey words input code text → Found code text
     Added : IsAnswered false → inspection_asked words ≡ Some inspection.Sum → (total : Result RangeTally Refusal) → IsTotalIn input total → told_of total ≡ (code, text) → Found code text
 
   -- ---- every outcome is found
@@ -203,6 +217,10 @@ module _ (words : List (List ℕ)) (input : List ℕ) where
     counted : Tallies words input code text → Found code text
     counted t = Counted (record { none = none_of input t.script (ap (λ (o : Option Inspection). script_asked o input) t.asked) t.fits t.spelled; asks = ap follows_prefix t.asked }) t
 
+    -- the survey of an expectation
+    judged : (seeds : ℕ) (config : Config) (script : Script) → inspection_asked words ≡ Some (inspection.Survey seeds config) → length input ≤ 16777216 → Spells (script_in input) script → OfSurvey words input code text → Found code text
+    judged seeds config script asked fits spelled made = Judged (record { none = none_of (script_in input) script (ap (λ (o : Option Inspection). script_asked o input) asked) fits spelled; asks = ap follows_prefix asked }) made
+
     -- the sum of tallies, or their fault
     added : inspection_asked words ≡ Some inspection.Sum → length input ≤ 16777216 → (total : Result RangeTally Refusal) → IsTotalIn input total → code ≡ (told_of total).0 → text ≡ (told_of total).1 → Found code text
     added is fits total summed code_is text_is = Added (none_before_sum is fits) is total summed (λ i. (sym code_is i, sym text_is i))
@@ -225,6 +243,8 @@ module _ (words : List (List ℕ)) (input : List ℕ) where
     found (outcome.TalliesRefused o) = added o.asked o.fits (Err (o.line, o.why)) (NotRead (o.line, o.why) o.read refl) o.code_is o.text_is
     found (outcome.SumRefused o) = added o.asked o.fits (Err (o.line, o.why)) (Totalled o.tallies o.read o.refused) o.code_is o.text_is
     found (outcome.Summed o) = added o.asked o.fits (Ok o.total) (Totalled o.tallies o.read o.summed) o.code_is o.text_is
+    found (outcome.ExpectationRefused o) = judged o.seeds o.config o.script o.asked o.fits o.spelled (Faulty o)
+    found (outcome.Surveyed o) = judged o.seeds o.config o.script o.asked o.fits o.spelled (Whole o)
 
 -- ---- and only one
 
@@ -232,6 +252,19 @@ module _ (words : List (List ℕ)) (input : List ℕ) where
 abbrev tally_seeds : Seeds → Option Inspection → Seeds
 tally_seeds other (Some (inspection.Tally seeds)) = seeds
 tally_seeds other _ = other
+
+-- the number of seeds and the configuration of words that ask for a survey
+abbrev survey_parts : ℕ × Config → Option Inspection → ℕ × Config
+survey_parts other (Some (inspection.Survey seeds config)) = (seeds, config)
+survey_parts other _ = other
+
+-- one text has one list of rules
+same_given_rules : (read : Result (List Rule) (ℕ × ExpectWhy)) (one other : List Rule) → read ≡ Ok one → read ≡ Ok other → one ≡ other
+same_given_rules read one other a b = ap (given_or one) (sym a ∙ b)
+  where
+    given_or : List Rule → Result (List Rule) (ℕ × ExpectWhy) → List Rule
+    given_or default (Ok rules) = rules
+    given_or default (Err fault) = default
 
 -- the seed of words that ask to continue
 abbrev seed_in : Option Inspection → ℕ
@@ -285,6 +318,43 @@ module _ (words : List (List ℕ)) (input : List ℕ) (code other : ℕ) (text t
         a.text_is ∙ (λ i. text_of (range_lines (record { seeds = seeds i; subject = subject_of (script i); tally = tally i }))) ∙ sym b.text_is,
       )
 
+  -- what words ask for that ask for a survey
+  asked_of : {c : ℕ} {t : List ℕ} → OfSurvey words input c t → (n : ℕ) × (config : Config) × (inspection_asked words ≡ Some (inspection.Survey n config))
+  asked_of (Faulty a) = (a.seeds, a.config, a.asked)
+  asked_of (Whole a) = (a.seeds, a.config, a.asked)
+
+  survey_or_tally : {c d : ℕ} {t u : List ℕ} → OfSurvey words input c t → Tallies words input d u → ⊥
+  survey_or_tally a b = let is = asked_of a in no_tally_of is.0 is.1 b.seeds is.2 b.asked
+    where
+      no_tally_of : (n : ℕ) (config : Config) (seeds : Seeds) → inspection_asked words ≡ Some (inspection.Survey n config) → inspection_asked words ≡ Some (inspection.Tally seeds) → ⊥
+      no_tally_of n config seeds survey tally = absurd cc
+
+  survey_or_sum : {c : ℕ} {t : List ℕ} → OfSurvey words input c t → inspection_asked words ≡ Some inspection.Sum → ⊥
+  survey_or_sum a sum = let is = asked_of a in no_sum_of is.0 is.1 is.2
+    where
+      no_sum_of : (n : ℕ) (config : Config) → inspection_asked words ≡ Some (inspection.Survey n config) → ⊥
+      no_sum_of n config survey = absurd cc
+
+  -- one script has one survey of the rules
+  judged_once : OfSurvey words input code text → OfSurvey words input other told → (code ≡ other) × (text ≡ told)
+  judged_once (Faulty a) (Faulty b) =
+      let same = same_err {X = List Rule} (expects_in (expectation_in input)) (a.line, a.why) (b.line, b.why) a.first b.first in
+      (a.code_is ∙ sym b.code_is, a.text_is ∙ ap (λ (fault : ℕ × ExpectWhy). line_text (refused_expect fault.0 fault.1)) same ∙ sym b.text_is)
+  judged_once (Faulty a) (Whole b) = absurd (ok_or_err (expects_in (expectation_in input)) b.rules (a.line, a.why) b.read a.first)
+  judged_once (Whole a) (Faulty b) = absurd (ok_or_err (expects_in (expectation_in input)) a.rules (b.line, b.why) a.read b.first)
+  judged_once (Whole a) (Whole b) =
+      let asked = ap (survey_parts (b.seeds, b.config)) (sym a.asked ∙ b.asked) in
+      let script : a.script ≡ b.script = spells_one_script (script_in input) a.script b.script a.spelled b.spelled in
+      let rules : a.rules ≡ b.rules = same_given_rules (expects_in (expectation_in input)) a.rules b.rules a.read b.read in
+      let counted : IsSurveyOf b.script (config_for b.script b.config) b.rules b.seeds a.survey =
+      subst (λ (s : Script). IsSurveyOf s (config_for s b.config) b.rules b.seeds a.survey) script
+      (subst (λ (rs : List Rule). IsSurveyOf a.script (config_for a.script b.config) rs b.seeds a.survey) rules
+      (subst (λ (p : ℕ × Config). IsSurveyOf a.script (config_for a.script p.1) a.rules p.0 a.survey) asked a.counted)) in
+      let survey : a.survey ≡ b.survey = surveys_are_one b.script (config_for b.script b.config) b.rules b.seeds a.survey b.survey counted b.counted in (
+        a.code_is ∙ ap code_of_survey survey ∙ sym b.code_is,
+        a.text_is ∙ ap survey_text survey ∙ sym b.text_is,
+      )
+
   -- words ask for a tally or for a sum
   tally_or_sum : (seeds : Seeds) → inspection_asked words ≡ Some (inspection.Tally seeds) → inspection_asked words ≡ Some inspection.Sum → ⊥
   tally_or_sum seeds tally sum = absurd cc
@@ -296,6 +366,19 @@ module _ (words : List (List ℕ)) (input : List ℕ) (code other : ℕ) (text t
   found_once (Refused a) (WentOn answered _ _ _ _ _ _ _ _) = absurd (refused_or_not a answered)
   found_once (Refused a) (Counted answered _) = absurd (refused_or_not a answered)
   found_once (Refused a) (Added answered _ _ _ _) = absurd (refused_or_not a answered)
+  found_once (Refused a) (Judged answered _) = absurd (refused_or_not a answered)
+  found_once (Judged answered _) (Refused b) = absurd (refused_or_not b answered)
+  found_once (Shown answered _ _ _) (Judged none _) = absurd (asks_for_both answered none)
+  found_once (Judged none _) (Shown answered _ _ _) = absurd (asks_for_both answered none)
+  found_once (Drew answered _ _ _ _ _) (Judged none _) = absurd (asks_for_both answered none)
+  found_once (Judged none _) (Drew answered _ _ _ _ _) = absurd (asks_for_both answered none)
+  found_once (WentOn answered _ _ _ _ _ _ _ _) (Judged none _) = absurd (asks_for_both answered none)
+  found_once (Judged none _) (WentOn answered _ _ _ _ _ _ _ _) = absurd (asks_for_both answered none)
+  found_once (Counted _ a) (Judged _ b) = absurd (survey_or_tally b a)
+  found_once (Judged _ a) (Counted _ b) = absurd (survey_or_tally a b)
+  found_once (Added _ sum _ _ _) (Judged _ b) = absurd (survey_or_sum b sum)
+  found_once (Judged _ a) (Added _ sum _ _ _) = absurd (survey_or_sum a sum)
+  found_once (Judged _ a) (Judged _ b) = whole (judged_once a b)
   found_once (Shown answered _ _ _) (Refused b) = absurd (refused_or_not b answered)
   found_once (Drew answered _ _ _ _ _) (Refused b) = absurd (refused_or_not b answered)
   found_once (WentOn answered _ _ _ _ _ _ _ _) (Refused b) = absurd (refused_or_not b answered)

@@ -1,7 +1,14 @@
 -- What is answered is an outcome.
-use Rattle.pct_names.proofs.Names.{◌<◌, ap, code_of_verdict, Config, Entry, Err, false, first_illegal, FirstFault, length, line_text, List}
+use Rattle.pct_names.proofs.Names.{◌<◌, ap, Bool, code_of_verdict, cond, Config, config_for, Entry, Err, false, first_illegal, FirstFault, length, line_text, List}
 use Rattle.pct_names.proofs.Names.{None, Ok, Option, ParseWhy, refl, refused_input, refused_schedule, refused_script, refused_words, Run}
 use Rattle.pct_names.proofs.Names.{ScheduleWhy, Script, Some, Spells, subst, sym, text_of, true, verdict_of, ℕ, ◌∙◌, ◌≡◌, ◌≤◌}
+use Rattle.pct_expect.specs.declared.fault.ExpectWhy.{ExpectWhy}
+use Rattle.pct_expect.specs.declared.rule.Rule.{Rule}
+use Rattle.pct_expect.specs.Reading.{expects_in}
+use Rattle.pct_survey.specs.declared.counting.Survey.{Survey}
+use Rattle.pct_survey.specs.Surveys.{IsSurveyOf, has_failure}
+use Rattle.pct_command.specs.declared.status.Status.TheVariants as status
+use Rattle.pct_command.specs.Status.{code_of}
 use Rattle.pct_engine.specs.EngineStates.{EngineValue, IsRunOf}
 use Rattle.pct_engine.proofs.EngineLaws.{keeps_laws}
 use Rattle.pct_history.specs.Replays.{followed, Follows}
@@ -23,7 +30,8 @@ use Rattle.pct_inspection.specs.Words.{is_inspection}
 use Rattle.pct_inspection.specs.Inspection.{prefix_for, code_by, follows_prefix, script_asked, IsInspected}
 use Rattle.pct_inspection.specs.Inspection as outcome
 use Rattle.pct_inspection.specs.TallyOutcomes.{IsTotalIn, NotRead, refused_tally, subject_of, Totalled}
-use Rattle.pct_inspection.specs.Answer.{code_of_answer, text_of_answer, AsksFor, AsksToContinue, HasScript}
+use Rattle.pct_inspection.specs.SurveyOutcomes.{refused_expect}
+use Rattle.pct_inspection.specs.Answer.{code_of_answer, text_of_answer, AsksFor, AsksToContinue, HasParts, HasScript}
 use Rattle.pct_inspection.proofs.Inputs.{is_accepted}
 use Rattle.pct_inspection.proofs.Totals.{same_err}
 
@@ -130,3 +138,47 @@ sum_refusal-answer words input line why asked fits (NotRead fault read is) =
     outcome.TalliesRefused (record { asked = asked; fits = fits; line = line; why = why; read = read ∙ ap Err same; code_is = refl; text_is = refl })
 sum_refusal-answer words input line why asked fits (Totalled tallies read refused) =
     outcome.SumRefused (record { asked = asked; fits = fits; tallies = tallies; read = read; line = line; why = why; refused = refused; code_is = refl; text_is = refl })
+
+-- ---- surveys
+
+code_of_test : (failed : Bool) → code_of (cond failed status.ExpectFailed status.Complete) ≡ cond failed 14 0
+code_of_test true = refl
+code_of_test false = refl
+
+-- what is counted of the rules of an expectation
+pub survey-answer : (words : List (List ℕ)) (input expectation : List ℕ) (seeds : ℕ) (config used : Config) (script : Script) (rules : List Rule) (survey : Survey)
+    → AsksFor words (inspection.Survey seeds config) → HasParts input script expectation → expects_in expectation ≡ Ok rules → used ≡ config_for script config → IsSurveyOf script used rules seeds survey
+    → IsInspected words input (code_of_answer (answer.Surveyed survey)) (text_of_answer (answer.Surveyed survey))
+survey-answer words input expectation seeds config used script rules survey asked has read used_is counted =
+    outcome.Surveyed (record {
+      seeds = seeds;
+      config = config;
+      asked = asked;
+      fits = has.has_script.fits;
+      script = script;
+      spelled = has.has_script.spelled;
+      rules = rules;
+      read = ap expects_in (sym has.rest) ∙ read;
+      survey = survey;
+      counted = subst (λ (c : Config). IsSurveyOf script c rules seeds survey) used_is counted;
+      code_is = code_of_test (has_failure survey);
+      text_is = refl;
+    })
+
+-- an expectation with a fault
+pub expectation-answer : (words : List (List ℕ)) (input expectation : List ℕ) (seeds : ℕ) (config : Config) (script : Script) (line : ℕ) (why : ExpectWhy)
+    → AsksFor words (inspection.Survey seeds config) → HasParts input script expectation → expects_in expectation ≡ Err (line, why) → IsInspected words input 15 (line_text (refused_expect line why))
+expectation-answer words input expectation seeds config script line why asked has first =
+    outcome.ExpectationRefused (record {
+      seeds = seeds;
+      config = config;
+      asked = asked;
+      fits = has.has_script.fits;
+      script = script;
+      spelled = has.has_script.spelled;
+      line = line;
+      why = why;
+      first = ap expects_in (sym has.rest) ∙ first;
+      code_is = refl;
+      text_is = refl;
+    })

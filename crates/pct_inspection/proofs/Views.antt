@@ -18,7 +18,8 @@ use Rattle.pct_inspection.specs.declared.words.Form.TheVariants as form
 use Rattle.pct_inspection.specs.declared.words.Inspection.TheVariants as inspection
 use Rattle.pct_inspection.specs.declared.words.View.{View}
 use Rattle.pct_inspection.specs.declared.words.View.TheVariants as view
-use Rattle.pct_inspection.specs.Inspection.{script_in, prefix_for, notice, code_by, FollowsPrefix, code_after, IsInspected}
+use Rattle.pct_inspection.specs.Inputs.{script_in}
+use Rattle.pct_inspection.specs.Inspection.{prefix_for, notice, code_by, FollowsPrefix, code_after, IsInspected}
 use Rattle.pct_inspection.specs.Inspection as outcome
 use Rattle.pct_inspection.specs.Answer.{code_of_answer, status_by, status_of_answer, text_of_answer, Answered, AsksFor, HasScript}
 use Rattle.pct_inspection.specs.Shown.{IsInForm, ShowsState, ShowsTrace, state_text, verdict_after}

@@ -1,5 +1,5 @@
 -- Answers: their statuses and their texts, and what the functions below `inspect` promise of them.
-use Rattle.std.specs.Prelude.{◌≡◌, ℕ, ◌≤◌, List, ◌++◌, length, Option, Some, None, Result, IfOk, IsErrOf}
+use Rattle.std.specs.Prelude.{◌≡◌, ℕ, ◌≤◌, if◌then◌else◌, List, ◌++◌, length, Option, Some, None, Result, IfOk, IsErrOf}
 use Rattle.std.specs.Io.KnownBytes.{Consumes}
 use Rattle.pct_io.specs.ErrorCounts.{Rose}
 use Rattle.pct_model.specs.declared.limits.TheConstants.{MAX_INPUT}
@@ -19,7 +19,12 @@ use Rattle.pct_inspection.specs.declared.answer.Unanswered.TheVariants as unansw
 use Rattle.pct_inspection.specs.declared.words.Inspection.{Inspection}
 use Rattle.pct_inspection.specs.declared.words.Inspection.TheVariants as inspection
 use Rattle.pct_inspection.specs.Words.{inspection_asked, is_inspection}
-use Rattle.pct_inspection.specs.Inspection.{script_in, prefix_in, notice, IsInspected}
+use Rattle.pct_inspection.specs.Inputs.{script_in, prefix_in}
+use Rattle.pct_inspection.specs.Inspection.{notice, IsInspected}
+use Rattle.pct_survey.specs.declared.counting.Survey.{Survey}
+use Rattle.pct_survey.specs.Surveys.{has_failure}
+use Rattle.pct_survey.specs.SurveyTexts.{survey_text}
+use Rattle.pct_inspection.specs.SurveyOutcomes.{refused_expect}
 use Rattle.pct_inspection.specs.TallyOutcomes.{refused_tally}
 
 -- ---- the status and the text of an answer
@@ -29,6 +34,10 @@ abbrev pub status_by : Option ℕ → Status → Status
 status_by None s = s
 status_by (Some entry_number) s = status.ScheduleRefused
 
+-- the status of a survey: whether each rule holds of each run
+abbrev pub status_of_survey : Survey → Status
+status_of_survey survey = if has_failure survey then status.ExpectFailed else status.Complete
+
 -- the status of an answer
 abbrev pub status_of_answer : Answer → Status
 status_of_answer (answer.Refused why) = status_of_refusal why
@@ -36,18 +45,22 @@ status_of_answer (answer.Continued engine illegal) = status_by illegal (status_o
 status_of_answer (answer.Shown text v illegal) = status_by illegal (status_of_verdict v)
 status_of_answer (answer.Tallied range) = status.Complete
 status_of_answer (answer.TallyRefused line why) = status.TallyRefused
+status_of_answer (answer.Surveyed survey) = status_of_survey survey
+status_of_answer (answer.ExpectRefused line why) = status.ExpectRefused
 
 -- the code of an answer
 abbrev pub code_of_answer : Answer → ℕ
 code_of_answer a = code_of (status_of_answer a)
 
--- the text of an answer: the line of a refusal, the report of a run and the notice after it, a view, or a tally
+-- the text of an answer: the line of a refusal, the report of a run and the notice after it, a view, a tally, or a survey
 abbrev pub text_of_answer : Answer → List ℕ
 text_of_answer (answer.Refused why) = line_text (line_of_refusal why)
 text_of_answer (answer.Continued engine illegal) = text_of_run engine ++ notice illegal
 text_of_answer (answer.Shown text v illegal) = text.items
 text_of_answer (answer.Tallied range) = text_of (range_lines range)
 text_of_answer (answer.TallyRefused line why) = line_text (refused_tally line why)
+text_of_answer (answer.Surveyed survey) = survey_text survey
+text_of_answer (answer.ExpectRefused line why) = line_text (refused_expect line why)
 
 -- ---- the answer to a text
 

@@ -1,6 +1,6 @@
 -- The outcome of the program that inspects runs: the exit status, given by its code, and the bytes written, for given arguments and
 -- input.
-use Rattle.std.specs.Prelude.{◌≡◌, ◌≢◌, ◌⊎◌, ℕ, ◌<◌, ◌≤◌, Bool, true, false, List, [], ◌∷◌, ◌++◌, length, take, drop, slice_get, Contains, IsSomeAnd, Option, Some, None, Ok, Err, codes, decimal}
+use Rattle.std.specs.Prelude.{◌≡◌, ◌≢◌, ◌⊎◌, ℕ, ◌<◌, ◌≤◌, Bool, true, false, List, [], ◌∷◌, ◌++◌, length, slice_get, Contains, IsSomeAnd, Option, Some, None, Ok, Err, codes, decimal}
 use Rattle.pct_model.specs.declared.refusal.ParseWhy.{ParseWhy}
 use Rattle.pct_model.specs.declared.refusal.ScheduleWhy.{ScheduleWhy}
 use Rattle.pct_model.specs.declared.script.Func.{Func}
@@ -14,10 +14,12 @@ use Rattle.pct_model.specs.Keywords.{keyword_text, line_text}
 use Rattle.pct_model.specs.Checks.{FirstFault}
 use Rattle.pct_model.specs.Formats.{format_of}
 use Rattle.pct_model.specs.Spells.{Spells}
-use Rattle.pct_model.specs.Schedule.{Schedule, replay_parts, sched_of}
+use Rattle.pct_model.specs.Schedule.{Schedule, sched_of}
 use Rattle.pct_model.specs.Run.{Run, run, first_illegal, verdict_of}
 use Rattle.pct_model.specs.Outcome.{code_of_verdict, refused_words, refused_input, refused_script, refused_schedule}
 use Rattle.pct_model.specs.Report.{report}
+use Rattle.pct_expect.specs.declared.rule.Rule.{Rule}
+use Rattle.pct_expect.specs.Reading.{expects_in}
 use Rattle.pct_laws.specs.Kept.{Kept}
 use Rattle.pct_laws.specs.Laws.{Laws}
 use Rattle.pct_schedule.specs.Prefix.{prefix_of}
@@ -43,18 +45,12 @@ use Rattle.pct_tallies.specs.declared.range_tally.RangeTally.{RangeTally}
 use Rattle.pct_tallies.specs.declared.seeds.Seeds.{Seeds}
 use Rattle.pct_tallies.specs.Readings.{tallies_in}
 use Rattle.pct_tallies.specs.Totals.{IsTotalOf}
+use Rattle.pct_inspection.specs.Inputs.{expectation_in, prefix_in, script_in}
+use Rattle.pct_inspection.specs.SurveyOutcomes.{RefusesExpectation, Surveys}
 use Rattle.pct_inspection.specs.TallyOutcomes.{RefusesSum, RefusesTallies, Sums, Tallies}
 use Rattle.pct_inspection.specs.Words.{inspection_asked, is_inspection}
 
 -- ---- the input
-
--- the script in an input: the part before the line `%%`, or the whole input without such a line
-unfoldable pub script_in : List ℕ → List ℕ
-script_in input = take (replay_parts input).0 input
-
--- the prefix of a schedule in an input: the part after the line `%%`, empty without such a line
-unfoldable pub prefix_in : List ℕ → List ℕ
-prefix_in input = drop (replay_parts input).1 input
 
 -- what the prefix in an input with this script is parsed to: a configuration and entries, or a fault. An empty prefix has no entry, and the
 -- default configuration with the format of the script
@@ -67,6 +63,7 @@ follows_prefix (Some (inspection.Continue seed)) = true
 follows_prefix (Some (inspection.Show shown)) = true
 follows_prefix (Some (inspection.Tally seeds)) = false
 follows_prefix (Some inspection.Sum) = false
+follows_prefix (Some (inspection.Survey seeds config)) = false
 follows_prefix None = false
 
 -- the text of the script that the words ask for something of: the part before the line `%%`, and with `tally` the whole input. None with `sum`
@@ -75,6 +72,7 @@ script_asked (Some (inspection.Continue seed)) input = Some (script_in input)
 script_asked (Some (inspection.Show shown)) input = Some (script_in input)
 script_asked (Some (inspection.Tally seeds)) input = Some input
 script_asked (Some inspection.Sum) input = None
+script_asked (Some (inspection.Survey seeds config)) input = Some (script_in input)
 script_asked None input = None
 
 -- ---- what is written
@@ -234,6 +232,8 @@ pub data IsInspected (words : List (List ℕ)) (input : List ℕ) (code : ℕ) (
   TalliesRefused : RefusesTallies words input code text → IsInspected words input code text
   SumRefused : RefusesSum words input code text → IsInspected words input code text
   Summed : Sums words input code text → IsInspected words input code text
+  ExpectationRefused : RefusesExpectation words input code text → IsInspected words input code text
+  Surveyed : Surveys words input code text → IsInspected words input code text
 
 -- ---- completeness
 
@@ -252,12 +252,15 @@ pub record IsCodeOfRun (words : List (List ℕ)) (code : ℕ) : Type 0 where
   pub run_code : code < 5
   pub closed : (seed : ℕ) → inspection_asked words ≡ Some (inspection.Continue seed) → code < 4
 
--- the code of an input that is not refused: that of a run; and 0 with `tally` if the input spells a script, and with `sum` if it is tallies with a sum
+-- the code of an input that is not refused: that of a run; 0 with `tally` if the input spells a script, and with `sum` if it is tallies with a sum; and 0 or 14
+-- with `survey` if the input is a script and an expectation
 pub record IsAcceptedCode (words : List (List ℕ)) (input : List ℕ) (code : ℕ) : Type 0 where
   pub run : follows_prefix (inspection_asked words) ≡ true → IsValidPrefix input → IsCodeOfRun words code
   pub tally : (seeds : Seeds) (script : Script) → inspection_asked words ≡ Some (inspection.Tally seeds) → length input ≤ MAX_INPUT → Spells input script → code ≡ 0
   pub sum : (tallies : List PlacedTally) (total : RangeTally) → inspection_asked words ≡ Some inspection.Sum → length input ≤ MAX_INPUT
       → tallies_in input ≡ Ok tallies → IsTotalOf tallies (Ok total) → code ≡ 0
+  pub survey : (seeds : ℕ) (config : Config) (script : Script) (rules : List Rule) → inspection_asked words ≡ Some (inspection.Survey seeds config)
+      → length input ≤ MAX_INPUT → Spells (script_in input) script → expects_in (expectation_in input) ≡ Ok rules → (code ≡ 0) ⊎ (code ≡ 14)
 
 -- if the source reports its bytes and no call failed, the outcome of all that it had left was written whole, or memory ran out;
 -- with accepted words a valid input is not refused

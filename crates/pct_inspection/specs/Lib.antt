@@ -1,4 +1,6 @@
 pub mod Words
+pub mod Inputs
+pub mod SurveyOutcomes
 pub mod TallyOutcomes
 pub mod Inspection
 pub mod Answer

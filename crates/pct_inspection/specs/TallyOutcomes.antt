@@ -25,6 +25,7 @@ use Rattle.pct_sample.specs.FirstSeeds.{AreFirstSeeds}
 use Rattle.pct_sample.specs.Samples.{TallyOf}
 use Rattle.pct_inspection.specs.declared.words.Inspection.{Inspection}
 use Rattle.pct_inspection.specs.declared.words.Inspection.TheVariants as inspection
+use Rattle.pct_inspection.specs.SurveyOutcomes.{IsSurveyed}
 use Rattle.pct_inspection.specs.Words.{inspection_asked, is_tallied}
 
 -- ---- what is asked
@@ -40,6 +41,7 @@ IsTallied seeds = is_tallied seeds ≡ true
 
 abbrev pub IsAccepted : Inspection → Type 0
 IsAccepted (inspection.Tally seeds) = IsTallied seeds
+IsAccepted (inspection.Survey seeds config) = IsSurveyed seeds config
 IsAccepted _ = Unit {0}
 
 -- where the script's part of an input ends, and where the prefix's part begins: with `tally` all is the script

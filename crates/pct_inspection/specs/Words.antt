@@ -1,16 +1,21 @@
 -- The arguments of the program that inspects runs.
-use Rattle.std.specs.Prelude.{ℕ, ◌-◌, Bool, ◌&&◌, if◌then◌else◌, List, [], ◌∷◌, Option, Some, None, bytes_eq, codes, is_some, nat_lt, option_and_then}
+use Rattle.std.specs.Prelude.{ℕ, ◌-◌, Bool, false, not, ◌&&◌, ◌||◌, if◌then◌else◌, List, [], ◌∷◌, Option, Some, None, bytes_eq, codes, is_some, nat_eq, nat_le, nat_lt, option_and_then, option_map}
+use Rattle.std.specs.List.{list_any, starts_with}
 use Rattle.std.specs.Str.Parse.{digits_value}
+use Rattle.pct_model.specs.declared.keyword.Keyword.TheVariants as keyword
 use Rattle.pct_model.specs.declared.run_options.RunOption.TheVariants as option
-use Rattle.pct_model.specs.LineParsing.{is_empty}
+use Rattle.pct_model.specs.declared.schedule.Config.{Config}
+use Rattle.pct_model.specs.Keywords.{keyword_text}
+use Rattle.pct_model.specs.LineParsing.{is_empty, numeral}
 use Rattle.pct_model.specs.Lines.{◌>>=◌}
-use Rattle.pct_model.specs.RunOptions.{is_value}
+use Rattle.pct_model.specs.RunOptions.{is_value, option_name, run_options}
+use Rattle.pct_survey.specs.declared.surveying.TheConstants.{MAX_SURVEYED}
 use Rattle.pct_tallies.specs.declared.seeds.Seeds.{Seeds}
 use Rattle.pct_tallies.specs.declared.seeds.TheConstants.{MAX_TALLIED}
 use Rattle.pct_tallies.specs.Seeds.{is_range}
 use Rattle.pct_inspection.specs.declared.words.Form.TheVariants.{Trace, Lanes, Picture}
 use Rattle.pct_inspection.specs.declared.words.Inspection.{Inspection}
-use Rattle.pct_inspection.specs.declared.words.Inspection.TheVariants.{Continue, Show, Tally, Sum}
+use Rattle.pct_inspection.specs.declared.words.Inspection.TheVariants.{Continue, Show, Tally, Sum, Survey}
 use Rattle.pct_inspection.specs.declared.words.View.{View}
 use Rattle.pct_inspection.specs.declared.words.View.TheVariants.{Choices, States, Steps}
 use Rattle.pct_inspection.specs.Selections.{selection_asked}
@@ -67,13 +72,42 @@ tally_asked _ = None
 abbrev pub sum_asked : List (List ℕ) → Option Inspection
 sum_asked words = if is_empty words then Some Sum else None
 
--- what the arguments ask for: `continue` and a seed, `tally` and two seeds, `sum`, or the name of a view and a selection
+-- a word begins with the digit 0
+abbrev pub has_leading_zero : List ℕ → Bool
+has_leading_zero [] = false
+has_leading_zero (b ∷ bytes) = nat_eq b 48
+
+-- the number of seeds that a word gives: from 1 to 100,000, without leading zeros
+unfoldable pub seed_count : List ℕ → Option ℕ
+seed_count word = do
+  count ← numeral word
+  if not (has_leading_zero word) && nat_le 1 count && nat_le count MAX_SURVEYED then Some count else None
+
+-- a word begins as an option that a survey does not have
+abbrev pub is_of_one_run : List ℕ → Bool
+is_of_one_run word = starts_with nat_eq word (option_name option.Seed) || starts_with nat_eq word (option_name option.Workers) || starts_with nat_eq word (option_name option.Turns)
+
+-- the configuration that `run` has with these options, if none of them is one that a survey does not have
+unfoldable pub config_asked : List (List ℕ) → Option Config
+config_asked options = if list_any is_of_one_run options then None else option_map (λ run. run.config) (run_options (keyword_text keyword.Run ∷ options))
+
+-- the survey of a number of seeds, with options
+unfoldable pub survey_asked : List (List ℕ) → Option Inspection
+survey_asked [] = None
+survey_asked (count ∷ options) = do
+  seeds ← seed_count count
+  config ← config_asked options
+  Some (Survey seeds config)
+
+-- what the arguments ask for: `continue` and a seed, `tally` and two seeds, `sum`, `survey`, a number of seeds and options, or the name of a view and a
+-- selection
 unfoldable pub inspection_asked : List (List ℕ) → Option Inspection
 inspection_asked [] = None
 inspection_asked (command ∷ words) =
     if bytes_eq command (codes "continue") then continuation_asked words
     else if bytes_eq command (codes "tally") then tally_asked words
     else if bytes_eq command (codes "sum") then sum_asked words
+    else if bytes_eq command (codes "survey") then survey_asked words
     else option_and_then (view_asked words) (view_named command)
 
 -- the arguments are accepted; the input is then read

@@ -1,13 +1,15 @@
-//! The answers: a refusal, a run, a view of a run, or a tally.
+//! The answers: a refusal, a run, a view of a run, a tally, or a survey.
 
 ghost use Rattle.std.specs.Prelude.{◌≡◌};
 ghost use Rattle.pct_command.specs.Status.{IsAnswered};
 ghost use Rattle.pct_command.specs.Answer.{status_of_verdict};
-ghost use Rattle.pct_inspection.specs.Answer.{status_by, status_of_answer};
+ghost use Rattle.pct_inspection.specs.Answer.{status_by, status_of_answer, status_of_survey};
 
 use pct_command::{Refusal, Status};
 use pct_engine::Engine;
+use pct_expect::ExpectWhy;
 use pct_model::Verdict;
+use pct_survey::Survey;
 use pct_tallies::{RangeTally, TallyWhy};
 
 /// What is written.
@@ -29,6 +31,13 @@ pub(crate) enum Answer {
     },
     /// What is counted of the runs under the seeds of a range.
     Tallied(RangeTally),
+    /// What is counted of the rules of an expectation.
+    Surveyed(Survey),
+    /// One line that names the reason why an expectation is refused: its line, counted from 1, and why.
+    ExpectRefused {
+        line: u32,
+        why: ExpectWhy,
+    },
     /// One line that names the reason why tallies have no sum: the line of the input, counted from 1, and why.
     TallyRefused {
         line: u32,
@@ -60,8 +69,22 @@ impl Answer {
                 ..
             } => status_by(*illegal, *verdict),
             Answer::Tallied(_) => Status::Complete,
+            Answer::Surveyed(survey) => status_of_survey(survey),
+            Answer::ExpectRefused { .. } => Status::ExpectRefused,
             Answer::TallyRefused { .. } => Status::TallyRefused,
         }
+    }
+}
+
+// The status of a survey: whether each rule holds of each run.
+fn status_of_survey(survey: &Survey) -> Status
+    ensures status { result ≡ status_of_survey survey.now }
+    ensures answered { IsAnswered result }
+{
+    if survey.has_failure() {
+        Status::ExpectFailed
+    } else {
+        Status::Complete
     }
 }
 

@@ -6,17 +6,20 @@ ghost use Rattle.pct_model.specs.Keywords.{line_text};
 ghost use Rattle.pct_command.specs.Answer.{text_of_run};
 ghost use Rattle.pct_inspection.specs.Answer.{text_of_answer};
 ghost use Rattle.pct_inspection.specs.Inspection.{notice};
+ghost use Rattle.pct_inspection.specs.SurveyOutcomes.{refused_expect};
 ghost use Rattle.pct_inspection.specs.TallyOutcomes.{refused_tally};
 
 use crate::answer::Answer;
 use pct_command::write_refusal;
 use pct_engine::Engine;
+use pct_expect::ExpectWhy;
 use pct_io::{Failed, Field, Sink, write_all, write_line};
 use pct_model::Keyword;
 use pct_report::write_report;
+use pct_survey::write_survey;
 use pct_tallies::{TallyWhy, write_range_tally};
 
-/// Writes an answer: the line of a refusal, the report of a run and the notice after it, a view, or a tally.
+/// Writes an answer: the line of a refusal, the report of a run and the notice after it, a view, a tally, or a survey.
 pub(crate) fn write_answer<K: Sink>(answer: &Answer, sink: &mut K) -> Result<(), Failed>
     ensures { Writes K.written K.errors K.inners sink.old sink.new (text_of_answer answer.now) result }
 {
@@ -25,6 +28,8 @@ pub(crate) fn write_answer<K: Sink>(answer: &Answer, sink: &mut K) -> Result<(),
         Answer::Continued { engine, illegal } => write_continued(engine, *illegal, sink),
         Answer::Shown { text, .. } => write_all(sink, text),
         Answer::Tallied(range) => write_range_tally(range, sink),
+        Answer::Surveyed(survey) => write_survey(survey, sink),
+        Answer::ExpectRefused { line, why } => write_expect_refusal(*line, *why, sink),
         Answer::TallyRefused { line, why } => write_tally_refusal(*line, *why, sink),
     }
 }
@@ -39,6 +44,22 @@ fn write_continued<K: Sink>(
 {
     write_report(engine, sink)?;
     write_notice(illegal, sink)
+}
+
+// Writes the line that names the reason why an expectation is refused.
+#[tactic(auto, unfolding(crate::specs::SurveyOutcomes::refused_expect))]
+fn write_expect_refusal<K: Sink>(line: u32, why: ExpectWhy, sink: &mut K) -> Result<(), Failed>
+    ensures { Writes K.written K.errors K.inners sink.old sink.new (line_text (refused_expect line why)) result }
+{
+    write_line(
+        sink,
+        &[
+            Field::Text(Keyword::Refused.text()),
+            Field::Text(b"expect"),
+            Field::Number(line),
+            Field::Text(why.text()),
+        ],
+    )
 }
 
 // Writes the line that names the reason why tallies have no sum.

@@ -9,6 +9,7 @@ use crate::answer::Answer;
 use crate::continuing::continue_script;
 use crate::resources::Resources;
 use crate::showing::{Parts, show_script};
+use crate::surveying::survey_script;
 use crate::tallying::{sum_tallies, tally_script};
 use crate::words::Inspection;
 use pct_command::Refusal;
@@ -63,6 +64,9 @@ fn answer_script<R: Threads + Sync>(
                 show_script(alloc, view, selection, script, parts)
             }
             Inspection::Tally(seeds) => tally_script(resources, seeds, &script),
+            Inspection::Survey { seeds, config } => {
+                survey_script(resources, (seeds, config), &script, &input[start..])
+            }
             Inspection::Sum => unreachable!(),
         },
         Err(ParseFault::Refused { line, why }) => {
@@ -72,7 +76,7 @@ fn answer_script<R: Threads + Sync>(
     }
 }
 
-// The end of the script's part of an input, and the start of the prefix's part. With `tally` all is the script.
+// The end of the script's part of an input, and the start of the part after it. With `tally` all is the script.
 fn parts_of(asked: Inspection, input: &[u8]) -> (usize, usize)
     ensures parts { result ≡ parts_for asked input.now }
     ensures within { (result.0 ≤ length input.now) × (result.1 ≤ length input.now) }

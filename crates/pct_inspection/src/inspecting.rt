@@ -22,10 +22,12 @@ use std::thread::Threads;
 
 /// Does what the words ask for on the bytes of the source, and writes the answer to the sink.
 ///
-/// The words are `continue` and a seed, one of `trace`, `choices`, `states`, `lanes` and `picture`, `tally` and two seeds, or `sum`. With `tally` the
-/// input is a script, and with `sum` it is tallies. With the others it is a script, a line `%%`, and a prefix of a schedule: a schedule or a whole
-/// report, in which the line `end N` may be missing. Without a line `%%`, or with nothing after it, the prefix has no entry, and the numbers of the
-/// run are those of `run` without options. The run makes the steps of the prefix, up to the first entry that is not legal.
+/// The words are `continue` and a seed, one of `trace`, `choices`, `states`, `lanes` and `picture`, `tally` and two seeds, `sum`, or
+/// `survey`, a number of seeds from 1 to 100,000 and options of `run` but `--seed`, `--workers` and `--turns`. With `tally` the input is a script, with
+/// `sum` it is tallies, and with `survey` it is a script, a line `%%`, and an expectation. With the others it is a script, a line `%%`, and a prefix
+/// of a schedule: a schedule or a whole report, in which the line `end N` may be missing. Without a line `%%`, or with nothing after it, the prefix
+/// has no entry, and the numbers of the run are those of `run` without options. The run makes the steps of the prefix, up to the first entry that is
+/// not legal.
 ///
 /// - `continue`: worker 1 makes each further step, as two words of its random stream choose under the seed, until the verdict is not `Open`.
 ///   The report is written.
@@ -41,6 +43,9 @@ use std::thread::Threads;
 ///   which way, with the first seed of each, and the digest of the script. The runs are spread over threads, if threads can be made; the answer does
 ///   not depend on that.
 /// - `sum`: the sum of the tallies is written, if they are of one script and their ranges together have each seed from the first to the last once.
+/// - `survey`: the script is run under each seed from 1 to the number, as `run --seed S` does with these options and one worker. It is written of how
+///   many of the runs each rule of the expectation holds and of how many it does not, and how many end with each verdict, each with the first seed.
+///   The runs are spread over threads, as those of `tally` are.
 ///
 /// After a report or a view, if entry N of the prefix is not legal, a line `entry N is not legal here` is written. A refusal is one line that names
 /// the reason.
@@ -52,6 +57,8 @@ use std::thread::Threads;
 /// - `ScriptRefused`: the text of the script has a fault.
 /// - `TallyRefused`: the input of `sum` has a line that is none of a tally, or the tallies have no sum.
 /// - `Complete`, from `tally` and `sum`: the tally was written, whatever the verdicts of its runs are.
+/// - `ExpectRefused`: the expectation of `survey` has a fault.
+/// - `Complete` or `ExpectFailed`, from `survey`: what is counted was written, and each rule holds of each run, or one does not.
 /// - `ScheduleRefused`: the text of the prefix has a fault, or one of its entries is not legal; then the report or the view, and the notice,
 ///   were written.
 /// - `Complete`, `Deadlock`, `Budget`, `Undefined` or, of a view, `Open`: the report or the view of a run with this verdict was written.

@@ -7,7 +7,8 @@ ghost use Rattle.pct_model.specs.declared.limits.TheConstants.{MAX_INPUT};
 ghost use Rattle.pct_view_texts.specs.TextBuffers.{text_in, Appends};
 ghost use Rattle.pct_inspection.specs.declared.words.Inspection.TheVariants as inspection;
 ghost use Rattle.pct_inspection.specs.Answer.{Answered, AsksFor, HasParts};
-ghost use Rattle.pct_inspection.specs.Inspection.{notice, script_in};
+ghost use Rattle.pct_inspection.specs.Inputs.{script_in};
+ghost use Rattle.pct_inspection.specs.Inspection.{notice};
 ghost use Rattle.pct_inspection.specs.Shown.{IsInForm, ShowsState, ShowsTrace, state_text};
 
 use crate::answer::Answer;

@@ -1,12 +1,17 @@
 //! The words after the program's name.
 
 ghost use Rattle.std.specs.Prelude.{◌≡◌, map, string_bytes};
-ghost use Rattle.pct_inspection.specs.Words.{continuation_asked, inspection_asked, is_tallied, seeds_asked, sum_asked, tally_asked, view_asked, view_named};
+ghost use Rattle.std.specs.List.{list_any};
+ghost use Rattle.pct_inspection.specs.Words.{config_asked, continuation_asked, has_leading_zero, inspection_asked, is_of_one_run, is_tallied, seed_count};
+ghost use Rattle.pct_inspection.specs.Words.{seeds_asked, sum_asked, survey_asked, tally_asked, view_asked, view_named};
 
 use crate::selecting::read_selection;
 use pct_lanes::Selection;
-use pct_options::read_seed;
+use pct_model::Config;
+use pct_options::{read_options, read_seed};
+use pct_survey::MAX_SURVEYED;
 use pct_tallies::{MAX_TALLIED, Seeds};
+use pct_text::numeral;
 
 /// A form in which the steps of a run are shown.
 #[derive(Clone, Copy)]
@@ -41,10 +46,13 @@ pub enum Inspection {
     Tally(Seeds),
     /// Write the sum of tallies.
     Sum,
+    /// Run the script under each seed from 1 to this number, with this configuration, and write what is counted of the rules of an expectation.
+    Survey { seeds: u32, config: Config },
 }
 
 /// What the words ask for: `trace`, `choices`, `states` or `sum` alone; `lanes` or `picture` and a selection; `continue` and a seed, which is
-/// 1 to 20 digits; or `tally` and two seeds, which are not 0, of which the second is not less than the first, and which are less than 1,000,000
+/// 1 to 20 digits; `survey`, a number of seeds from 1 to 100,000 without leading zeros, and options of `run` but `--seed`, `--workers` and
+/// `--turns`; or `tally` and two seeds, which are not 0, of which the second is not less than the first, and which are less than 1,000,000
 /// apart. It is `None` with all other words. It allocates no memory.
 #[tactic(auto, unfolding(crate::specs::Words::inspection_asked))]
 pub fn read_inspection(words: &[String]) -> Option<Inspection>
@@ -57,6 +65,8 @@ pub fn read_inspection(words: &[String]) -> Option<Inspection>
         tally_asked(rest)
     } else if command.as_bytes() == b"sum".as_slice() {
         sum_asked(rest)
+    } else if command.as_bytes() == b"survey".as_slice() {
+        survey_asked(rest)
     } else {
         view_asked(rest, view_named(command.as_bytes())?)
     }
@@ -110,6 +120,67 @@ fn sum_asked(words: &[String]) -> Option<Inspection>
     } else {
         None
     }
+}
+
+// The survey of as many seeds as the first word says, with the configuration that the options after it give.
+#[tactic(auto, unfolding(crate::specs::Words::survey_asked))]
+fn survey_asked(words: &[String]) -> Option<Inspection>
+    ensures { result ≡ survey_asked (map string_bytes words.now) }
+{
+    let (count, options) = words.split_first()?;
+    let seeds = seed_count(count.as_bytes())?;
+    let config = config_asked(options)?;
+    Some(Inspection::Survey { seeds, config })
+}
+
+// The number of seeds that a word gives, if it is one from 1 to 100,000 without leading zeros.
+#[tactic(auto, unfolding(crate::specs::Words::seed_count))]
+fn seed_count(word: &[u8]) -> Option<u32>
+    ensures { result ≡ seed_count word.now }
+{
+    let count = numeral(word)?;
+    if !has_leading_zero(word) && 1 <= count && count <= MAX_SURVEYED {
+        Some(count)
+    } else {
+        None
+    }
+}
+
+// Whether the first byte is the digit 0.
+fn has_leading_zero(word: &[u8]) -> bool
+    ensures { result ≡ has_leading_zero word.now }
+{
+    match word {
+        [first, ..] => *first == b'0',
+        _ => false,
+    }
+}
+
+// The configuration that options of `run` give, if none of them is the seed, the workers or the turns.
+fn config_asked(options: &[String]) -> Option<Config>
+    ensures { result ≡ config_asked (map string_bytes options.now) }
+{
+    if are_of_one_run(options) {
+        None
+    } else {
+        Some(read_options(options)?.config)
+    }
+}
+
+// Whether one of the words begins as an option that a survey does not have.
+fn are_of_one_run(words: &[String]) -> bool
+    ensures { result ≡ list_any (λ word. is_of_one_run (string_bytes word)) words.now }
+{
+    words.iter().any(|word| is_of_one_run(word.as_bytes()))
+}
+
+// Whether a word begins as an option that a survey does not have.
+fn is_of_one_run(word: &[u8]) -> bool
+    ensures { result ≡ is_of_one_run word.now }
+{
+    word.starts_with(b"--seed".as_slice())
+        || word.starts_with(b"--workers".as_slice())
+        || word.starts_with(b"--turns".as_slice())
 }
 
 // A view, if the words after its name are accepted.

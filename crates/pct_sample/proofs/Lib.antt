@@ -1,4 +1,4 @@
-mod OkRuns
+pub mod OkRuns
 mod SeedRuns
 mod FirstSeeds
 mod LongerRows

@@ -1,7 +1,7 @@
-use Rattle.pct_names.proofs.Names.{inl, inr, map, needs_input, refl, string_bytes, ◌∙◌, ◌≡◌}
+use Rattle.pct_names.proofs.Names.{inl, inr, map, refl, string_bytes, ◌∙◌, ◌≡◌}
 use Rattle.pct_io.proofs.Unchanged.{KeepsInners-refl}
 use Rattle.pct_command.specs.Command.{Outside, IsAnswer, Decides}
-use Rattle.pct_command.specs.Words.{takes_memory}
+use Rattle.pct_command.specs.Words.{reads_input, takes_memory}
 use Rattle.pct_command.specs.declared.answers.Answer.{Answer}
 use Rattle.pct_command.specs.declared.answers.Answer.TheVariants as answer
 use Rattle.pct_command.specs.declared.status.Status.TheVariants as status
@@ -16,12 +16,12 @@ returns-in-Ok-write_answer-clause-answers g c =
     let after : Outside = record { left = g.S.Source.left c.answer_words.new.source; read_errors = g.S.Source.errors c.answer_words.new.source; written = g.K.Sink.written c.write_answer.new.sink; write_errors = g.K.Sink.errors c.write_answer.new.sink } in
     let read = c.in-Ok.ensures.answer in
     let words = map string_bytes c.args.words.now in
-    let whole : Decides (needs_input words) (IsAnswer words) before after (code_of_answer c.in-Ok.answer) = record {
+    let whole : Decides (reads_input words) (IsAnswer words) before after (code_of_answer c.in-Ok.answer) = record {
       input = read.input;
       read = read.read;
       output = record { text = text_of_answer c.in-Ok.answer; answer = read.is_answer; wrote = c.in-Ok-write_answer.ensures.ok };
     } in
-    decides (needs_input words) (takes_memory words) (IsAnswer words) before after c.status.result c.status.ensures.answered (rw c.status.ensures.status whole)
+    decides (reads_input words) (takes_memory words) (IsAnswer words) before after c.status.result c.status.ensures.answered (rw c.status.ensures.status whole)
 
 pub returns-in-Ok-write_answer-clause-complete : goal.returns-in-Ok-write_answer-clause-complete
 returns-in-Ok-write_answer-clause-complete g c =
@@ -52,6 +52,7 @@ demonstration-status (answer.Checked script) is = absurd is
 demonstration-status answer.Points is = absurd is
 demonstration-status (answer.Demonstrated number engine) is = refl
 demonstration-status (answer.Sampled seeds tally) is = absurd is
+demonstration-status (answer.Judged j) is = absurd is
 
 pub returns-in-Ok-write_answer-clause-demo : goal.returns-in-Ok-write_answer-clause-demo
 returns-in-Ok-write_answer-clause-demo g c = λ asked.

@@ -1,5 +1,6 @@
-use Rattle.pct_names.proofs.Names.{false_from_ne_true, false≢true, is_accepted, is_asked, map, rules, string_bytes, true, ◌≡◌}
+use Rattle.pct_names.proofs.Names.{false_from_ne_true, false≢true, is_asked, map, rules, string_bytes, true, ◌≡◌}
 use Rattle.pct_model.specs.declared.keyword.Keyword.TheVariants as keyword
+use Rattle.pct_command.specs.Words.{accepts}
 use Rattle.pct_command.proofs.AskedWords.{NeedsInput, has_input}
 use Rattle.pct_command.proofs.Outcomes.{words-answer, points-answer}
 use Rattle.pct_command.proofs.in_memory.answer_bytes.Goals as goal
@@ -7,7 +8,7 @@ use Rattle.pct_command.proofs.in_memory.answer_bytes.Goals as goal
 pub returns-in-Err : goal.returns-in-Err
 returns-in-Err g c =
     let words = map string_bytes c.args.words.now in
-    words-answer words c.args.input.now (false_from_ne_true (is_accepted words) (λ accepted. false≢true (c.in-Err.ensures.accepted.1 accepted)))
+    words-answer words c.args.input.now (false_from_ne_true (accepts words) (λ accepted. false≢true (c.in-Err.ensures.accepted.1 accepted)))
 
 pub returns-in-Ok-Points : goal.returns-in-Ok-Points
 returns-in-Ok-Points g c =

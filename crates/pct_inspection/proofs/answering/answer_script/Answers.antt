@@ -53,3 +53,16 @@ pub returns-in-Err-NoMemory-clause-memory : goal.returns-in-Err-NoMemory-clause-
 returns-in-Err-NoMemory-clause-memory g c = λ _.
     some_of_prefix c.parts_of-end.result.0 c.args.input.now
     (needs_bytes (take c.parts_of-end.result.0 c.args.input.now) (c.in-Err-NoMemory.ensures.memory (rw c.in-Err-NoMemory.field-0-is refl)))
+
+pub survey_script-requires-clause-accepted : goal.survey_script-requires-clause-accepted
+survey_script-requires-clause-accepted g c = λ _ _. subst IsAccepted c.in-Survey.is c.requires.accepted
+
+pub returns-in-Survey-clause-answer : goal.returns-in-Survey-clause-answer
+returns-in-Survey-clause-answer g c = λ words asks.
+    let input = c.args.input.now in
+    c.survey_script.ensures words input (asks ∙ ap Some c.in-Survey.is)
+    (has-parts input c.in-Ok.script c.parts_of-end.result c.requires.fits (c.parts_of-end.ensures.parts ∙ ap (λ (asked : Inspection). parts_for asked input) c.in-Survey.is) c.in-Ok.ensures.spelled)
+
+pub returns-in-Survey-clause-memory : goal.returns-in-Survey-clause-memory
+returns-in-Survey-clause-memory g c = λ _.
+    some_of_prefix c.parts_of-end.result.0 c.args.input.now (faultless_bytes (take c.parts_of-end.result.0 c.args.input.now) c.in-Ok.ensures.faultless)

@@ -1,4 +1,4 @@
-use Rattle.pct_names.proofs.Names.{map, string_bytes}
+use Rattle.pct_names.proofs.Names.{inl, inr, map, refl, string_bytes}
 use Rattle.pct_io.proofs.Unchanged.{KeepsInners-refl}
 use Rattle.pct_command.specs.Command.{Outside, Decides}
 use Rattle.pct_command.proofs.CompleteOutcomes.{decides}
@@ -41,3 +41,15 @@ returns-in-Err-ReadFault-clause-inners g c = KeepsInners-refl _
 
 pub returns-clause-inners : goal.returns-clause-inners
 returns-clause-inners g c = KeepsInners-refl _
+
+pub returns-in-Ok-clause-untouched : goal.returns-in-Ok-clause-untouched
+returns-in-Ok-clause-untouched g c = λ either. elim either [
+  | inl is ↦ absurd cc
+  | inr is ↦ absurd cc
+]
+
+pub returns-in-Ok-clause-read_errors : goal.returns-in-Ok-clause-read_errors
+returns-in-Ok-clause-read_errors g c = record { error = λ is. absurd cc; no_error = λ _. c.in-Ok.ensures.reads.no_error (λ is. absurd cc) }
+
+pub returns-in-Ok-clause-write_errors : goal.returns-in-Ok-clause-write_errors
+returns-in-Ok-clause-write_errors g c = record { error = λ _. c.in-Err.ensures.cause; no_error = λ other. absurd (other refl) }

@@ -1,0 +1,6 @@
+mod LineCount
+mod FaultLines
+mod WordsLeft
+mod BodyLines
+mod EventPlaces
+mod ReportParts

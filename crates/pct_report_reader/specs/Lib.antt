@@ -1,0 +1,5 @@
+pub mod Texts
+pub mod Reading
+pub mod Forms
+pub mod Gives
+pub mod Body

@@ -1,0 +1,9 @@
+mod Dotted
+mod FieldMatches
+mod EventLines
+mod HeldRules
+mod ThreadTexts
+mod MoreRuns
+mod CountedLists
+pub mod OneSurvey
+mod CollectedRuns

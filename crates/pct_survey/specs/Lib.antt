@@ -1,0 +1,5 @@
+pub mod JudgedRuns
+pub mod Surveys
+pub mod MoreRuns
+pub mod OneSurvey
+pub mod SurveyTexts
