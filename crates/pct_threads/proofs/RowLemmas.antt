@@ -576,35 +576,6 @@ none_taken zero i = refl
 none_taken (suc count) zero = refl
 none_taken (suc count) (suc i) = none_taken count i
 
-module _ (n : ℕ) (rows : List Row) (stacks : Stacks) (is_rows : rows ≡ replicate n no_row) where
-  row_is : (i : ℕ) → row_at rows i ≡ no_row
-  row_is i = ap (λ rs. row_at rs i) is_rows ∙ all n i
-    where
-      all : (n i : ℕ) → row_at (replicate n no_row) i ≡ no_row
-      all zero i = refl
-      all (suc n) zero = refl
-      all (suc n) (suc i) = all n i
-
-  pub opening_kept : n ≤ 64 → stacks ≡ all_free 64 204 → IsKept rows stacks
-  opening_kept few is_stacks = record {
-    width = ap (λ (s : Stacks). s.width) is_stacks;
-    count = ap (λ (s : Stacks). length s.slots) is_stacks;
-    few = omega (arith, ap length is_rows, length-replicate n no_row, few);
-    taken = λ i. ap (λ (s : Stacks). is_taken s i) is_stacks ∙ none_taken 64 i ∙ sym (ap (λ (r : Row). r.occupied) (row_is i));
-    deep = λ i. subst (λ (r : Row). r.depth ≤ 17) (sym (row_is i)) (omega arith);
-    end = λ i held. absurd (false≢true (sym (ap (λ (r : Row). r.occupied) (row_is i)) ∙ held));
-  }
-
-  pub opening_seen : slots_in rows stacks ≡ replicate n unused
-  opening_seen = ap (λ rs. slots_in rs stacks) is_rows ∙ all n 0
-    where
-      all : (n k : ℕ) → slots_from k (replicate n no_row) stacks ≡ replicate n unused
-      all zero k = refl
-      all (suc n) k = ap (λ ss. unused ∷ ss) (all n (suc k))
-
-  pub opening_set : (set : List ℕ) → set ≡ [] → set ≡ slots_where (is_occupied_at (slots_in rows stacks))
-  opening_set set none = none ∙ none_occupied (slots_in rows stacks) (λ k. occupied_row rows stacks k ∙ ap (λ (r : Row). r.occupied) (row_is k))
-
 -- ---- a table whose slots are all given back
 
 module _ (rows old : List Row) (stacks others : Stacks) (long : length rows ≡ length old) (made : (i : ℕ) → (row_at rows i).made ≡ (row_at old i).made) (free : (i : ℕ) → (row_at rows i).occupied ≡ false) where
@@ -635,3 +606,33 @@ module _ (rows old : List Row) (stacks others : Stacks) (long : length rows ≡ 
 
   pub cleared_set : [] ≡ slots_where (is_occupied_at (slots_in rows stacks))
   cleared_set = none_occupied (slots_in rows stacks) (λ k. occupied_row rows stacks k ∙ free k)
+
+-- ---- a table on which no thread was created
+
+none_made : (n i : ℕ) → row_at (replicate n no_row) i ≡ no_row
+none_made zero i = refl
+none_made (suc n) zero = refl
+none_made (suc n) (suc i) = none_made n i
+
+module _ (n : ℕ) (rows : List Row) (stacks : Stacks) (long : length rows ≡ n) (made : (i : ℕ) → (row_at rows i).made ≡ 0) (free : (i : ℕ) → (row_at rows i).occupied ≡ false) where
+  pub opening_kept : n ≤ 64 → ((i : ℕ) → (row_at rows i).depth ≤ 17) → stacks ≡ all_free 64 204 → IsKept rows stacks
+  opening_kept few deep is_stacks = record {
+    width = ap (λ (s : Stacks). s.width) is_stacks;
+    count = ap (λ (s : Stacks). length s.slots) is_stacks;
+    few = omega (arith, long, few);
+    taken = λ i. ap (λ (s : Stacks). is_taken s i) is_stacks ∙ none_taken 64 i ∙ sym (free i);
+    deep = deep;
+    end = λ i held. absurd (false≢true (sym (free i) ∙ held));
+  }
+
+  pub opening_seen : slots_in rows stacks ≡ replicate n unused
+  opening_seen =
+      cleared_seen rows (replicate n no_row) stacks stacks (long ∙ sym (length-replicate n no_row)) (λ i. made i ∙ sym (ap (λ (r : Row). r.made) (none_made n i))) free
+      ∙ all n 0
+    where
+      all : (n k : ℕ) → map freed (slots_from k (replicate n no_row) stacks) ≡ replicate n unused
+      all zero k = refl
+      all (suc n) k = ap (λ ss. unused ∷ ss) (all n (suc k))
+
+  pub opening_set : (set : List ℕ) → set ≡ [] → set ≡ slots_where (is_occupied_at (slots_in rows stacks))
+  opening_set set none = none ∙ none_occupied (slots_in rows stacks) (λ k. occupied_row rows stacks k ∙ free k)

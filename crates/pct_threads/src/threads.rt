@@ -68,7 +68,7 @@ impl Threads {
         ensures { IfOk result (λ threads. threads ≡ replicate slots unused) }
     {
         let mut rows = Vec::with_capacity(alloc, MAX_SLOTS as usize)?;
-        new_rows(&mut rows, slots as usize);
+        free_all(&mut rows, slots as usize);
         let stacks = StackBlock::new(alloc, MAX_SLOTS, held::STACK_WORDS)?;
         Ok(Threads {
             rows,
@@ -83,7 +83,7 @@ impl Threads {
         requires few { slots ≤ MAX_SLOTS }
         ensures { self.new ≡ replicate slots unused }
     {
-        new_rows(&mut self.rows, slots as usize);
+        free_all(&mut self.rows, slots as usize);
         self.stacks.reset(None);
         self.occupied = SlotSet::new();
     }
@@ -404,16 +404,20 @@ fn row_with(rows: &Vec<Row>, id: u32) -> Option<usize>
     rows.iter().position(|row| row.has_id(id))
 }
 
-// Makes this many rows, for which there is room, on which no thread was created.
-fn new_rows(rows: &mut Vec<Row>, count: usize)
+// Makes this many rows, for which there is room, on which no thread was created. A row keeps what no one sees of it.
+fn free_all(rows: &mut Vec<Row>, count: usize)
     requires few { count ≤ MAX_SLOTS }
     requires room { MAX_SLOTS ≤ vec_capacity rows.old }
-    ensures rows { rows.new.items ≡ replicate count no_row }
+    ensures long { length rows.new.items ≡ count }
+    ensures made { (i : ℕ) → (row_at rows.new.items i).made ≡ 0 }
+    ensures free { (i : ℕ) → (row_at rows.new.items i).occupied ≡ false }
+    ensures deep { (i : ℕ) → (row_at rows.new.items i).depth ≤ 17 }
     ensures room { MAX_SLOTS ≤ vec_capacity rows.new }
 {
-    rows.clear();
-    for _ in 0..count {
-        rows.push_reserved(Row::new());
+    let unused = Row::new();
+    rows.resize_with(count, Row::new).unwrap();
+    for slot in 0..count {
+        rows[slot].free_as(&unused);
     }
 }
 
