@@ -1,9 +1,12 @@
--- The data of a thread without values: none of its places is due, or left in a pass.
-use Rattle.pct_names.proofs.Names.{◌&&◌, ◌+◌, [], ap, Bool, cond, due_places, false, filter, is_due, is_left, is_some, key_at, KeyPlace}
-use Rattle.pct_names.proofs.Names.{KeyValues, left_places, List, MAX_KEYS, nat_eq, no_values, not, option_map_or, range_with_len, refl}
-use Rattle.pct_names.proofs.Names.{replicate, slice_get, slice_set, suc, without_value, zero, ℕ, ◌∙◌, ◌∷◌, ◌≡◌}
+-- The data of a thread without values, and places on which it has none: they are not due, and not left in a pass.
+use Rattle.std.specs.Prelude.{max}
+use Rattle.std.proofs.lemmas.List.{get_or-set_other}
+use Rattle.pct_names.proofs.Names.{◌&&◌, ◌+◌, ◌≤◌, ap, arith, Bool, false, is_due, is_left, is_some, key_at, KeyPlace}
+use Rattle.pct_names.proofs.Names.{KeyValues, List, MAX_KEYS, nat_eq, no_values, not, option_map_or, refl, subst, sym}
+use Rattle.pct_names.proofs.Names.{replicate, slice_get, slice_set, suc, with_value, without_value, zero, ℕ, ◌∙◌, ◌∷◌, ◌≡◌}
+use Rattle.pct_keys.specs.Tables.{IsUnsetFrom}
 use mathlib.Core.Bool.{and-false}
-use Rattle.pct_keys.proofs.SoundTables.{IsClear-no_values}
+use Rattle.pct_keys.proofs.SoundTables.{IsClear-no_values, at_set}
 
 -- ---- lists
 
@@ -11,12 +14,6 @@ set-replicate : {X : Type 0} (n i : ℕ) (x : X) → slice_set (replicate n x) i
 set-replicate zero i x = refl
 set-replicate (suc n) zero x = refl
 set-replicate (suc n) (suc i) x = ap (λ xs. x ∷ xs) (set-replicate n i x)
-
-filter-fails : (test : ℕ → Bool) → ((i : ℕ) → test i ≡ false) → (first n : ℕ) → filter test (range_with_len first n) ≡ []
-filter-fails test fails first zero = refl
-filter-fails test fails first (suc n) =
-    let rest : List ℕ = filter test (range_with_len (first + 1) n) in
-    ap (λ passes. cond passes (first ∷ rest) rest) (fails first) ∙ filter-fails test fails (first + 1) n
 
 -- ---- changes
 
@@ -29,20 +26,28 @@ without_value-none place =
 
 -- ---- places
 
-is_due-none : (places : List KeyPlace) (place : ℕ) → is_due places no_values place ≡ false
-is_due-none places place =
-    let has_destructor : Bool = option_map_or (λ key. is_some key.destructor) (key_at places place) false in
-    ap (λ value. has_destructor && not (nat_eq value 0)) (IsClear-no_values place).0 ∙ and-false has_destructor
+-- where there is no value, nothing is due or left
+module _ (places : List KeyPlace) (own : KeyValues) (end : ℕ) (unset : IsUnsetFrom end own) (place : ℕ) (past : end ≤ place) where
+  pub is_due-unset : is_due places own place ≡ false
+  is_due-unset =
+      let has_destructor : Bool = option_map_or (λ key. is_some key.destructor) (key_at places place) false in
+      ap (λ value. has_destructor && not (nat_eq value 0)) (unset place past) ∙ and-false has_destructor
 
-is_left-none : (places : List KeyPlace) (place : ℕ) → is_left places no_values place ≡ false
-is_left-none places place =
-    let in_pass : Bool = option_map_or (λ in_pass. in_pass) (slice_get no_values.in_pass place) false in
-    ap (λ due. in_pass && due) (is_due-none places place) ∙ and-false in_pass
+  pub is_left-unset : is_left places own place ≡ false
+  is_left-unset =
+      let in_pass : Bool = option_map_or (λ in_pass. in_pass) (slice_get own.in_pass place) false in
+      ap (λ due. in_pass && due) is_due-unset ∙ and-false in_pass
 
-pub due_places-none : (places : List KeyPlace) (own : KeyValues) → own ≡ no_values → due_places places own ≡ []
-unfolding due_places
-due_places-none places own none = ap (due_places places) none ∙ filter-fails (is_due places no_values) (is_due-none places) 0 MAX_KEYS
+-- ---- places without a value
 
-pub left_places-none : (places : List KeyPlace) (own : KeyValues) → own ≡ no_values → left_places places own ≡ []
-unfolding left_places
-left_places-none places own none = ap (left_places places) none ∙ filter-fails (is_left places no_values) (is_left-none places) 0 MAX_KEYS
+pub unset-new : IsUnsetFrom 0 no_values
+unset-new place past = (IsClear-no_values place).0
+
+-- a value is set
+pub unset-with : (own : KeyValues) (end place value : ℕ) → IsUnsetFrom end own → IsUnsetFrom (max end (place + 1)) (with_value place value own)
+unset-with own end place value unset p past =
+    subst (λ (v : ℕ). v ≡ 0) (sym (get_or-set_other own.values place p value 0 (omega (arith, past)))) (unset p (omega (arith, past)))
+
+-- a value is taken away
+pub unset-without : (own : KeyValues) (end place : ℕ) → IsUnsetFrom end own → IsUnsetFrom end (without_value place own)
+unset-without own end place unset p past = at_set (λ v. v ≡ 0) own.values place p 0 0 refl (unset p past)

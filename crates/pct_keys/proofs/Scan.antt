@@ -1,7 +1,7 @@
 -- The places that pass a test, found by a scan.
 use Rattle.pct_names.proofs.Names.{◌+◌, ◌-◌, ◌<◌, [], ap, arith, Bool, cond, due_places, false, filter, free_places, from_bool, is_due}
-use Rattle.pct_names.proofs.Names.{is_left, is_none, key_at, KeyPlace, KeyValues, left_places, length, List, MAX_KEYS, None, not, Option}
-use Rattle.pct_names.proofs.Names.{range_with_len, refl, slice_get, Some, suc, sym, true, ℕ, ◌∙◌, ◌∷◌, ◌≡◌, ◌≤◌}
+use Rattle.pct_names.proofs.Names.{is_left, is_none, key_at, KeyPlace, KeyValues, le_refl, left_places, length, List, MAX_KEYS, None, not, Option}
+use Rattle.pct_names.proofs.Names.{range_with_len, refl, slice_get, Some, suc, sym, true, zero, ℕ, ◌∙◌, ◌∷◌, ◌≡◌, ◌≤◌}
 
 -- the places from a place on that pass the test
 unfoldable pub places_from : (ℕ → Bool) → ℕ → List ℕ
@@ -19,7 +19,18 @@ pub left-start : (places : List KeyPlace) (own : KeyValues) → places_from (is_
 unfolding places_from left_places
 left-start places own = refl
 
+filter-fails : (test : ℕ → Bool) (first n : ℕ) → ((i : ℕ) → first ≤ i → test i ≡ false) → filter test (range_with_len first n) ≡ []
+filter-fails test first zero fails = refl
+filter-fails test first (suc n) fails =
+    let rest : List ℕ = filter test (range_with_len (first + 1) n) in
+    ap (λ passes. cond passes (first ∷ rest) rest) (fails first (le_refl first)) ∙ filter-fails test (first + 1) n (λ i later. fails i (omega (arith, later)))
+
 module _ (test : ℕ → Bool) where
+  -- no place from this one on passes the test
+  places_from-none : (place : ℕ) → ((i : ℕ) → place ≤ i → test i ≡ false) → places_from test place ≡ []
+  unfolding places_from
+  places_from-none place fails = filter-fails test place (MAX_KEYS - place) fails
+
   places_from-end : (place : ℕ) → MAX_KEYS ≤ place → places_from test place ≡ []
   unfolding places_from
   places_from-end place past = let none : MAX_KEYS - place ≡ 0 = omega arith in ap (λ n. filter test (range_with_len place n)) none
@@ -41,6 +52,10 @@ module _ (test : ℕ → Bool) where
 
   pub count-end : (place count total : ℕ) → MAX_KEYS ≤ place → count + length (places_from test place) ≡ total → count ≡ total
   count-end place count total past so_far = omega (arith, ap length (places_from-end place past))
+
+  -- no place is left that passes the test
+  pub count-rest : (place end count total : ℕ) → end ≤ place → ((i : ℕ) → end ≤ i → test i ≡ false) → count + length (places_from test place) ≡ total → count ≡ total
+  count-rest place end count total past fails so_far = omega (arith, ap length (places_from-none place (λ i later. fails i (omega (arith, past, later)))), so_far)
 
   -- the number of places that do not pass the test
   pub others-step : (place count n total : ℕ) (b : Bool) → place < MAX_KEYS → not b ≡ test place → n ≡ from_bool b → count + total ≡ place + length (places_from test place) → (n ≤ 1) × (count + n + total ≡ place + 1 + length (places_from test (place + 1)))
@@ -70,3 +85,8 @@ module _ (test : ℕ → Bool) where
   -- the scan finds none
   pub nth-end : (place rest : ℕ) (found : Option ℕ) → MAX_KEYS ≤ place → slice_get (places_from test place) rest ≡ found → None ≡ found
   nth-end place rest found past so_far = sym (ap (λ xs. slice_get xs rest) (places_from-end place past)) ∙ so_far
+
+  -- no place is left that passes the test
+  pub nth-rest : (place end rest : ℕ) (found : Option ℕ) → end ≤ place → ((i : ℕ) → end ≤ i → test i ≡ false) → slice_get (places_from test place) rest ≡ found → None ≡ found
+  nth-rest place end rest found past fails so_far =
+      sym (ap (λ xs. slice_get xs rest) (places_from-none place (λ i later. fails i (omega (arith, past, later))))) ∙ so_far

@@ -11,7 +11,7 @@ use Rattle.pct_keys.specs.Tables.{Table, no_row, row_at, IsClear, IsSound, with_
 -- ---- lists
 
 -- what holds of an item after a write, if it holds of the new one and of the one before
-at_set : {X : Type 0} (P : X → Type 0) (xs : List X) (i k : ℕ) (x d : X) → P x → P (get_or xs k d) → P (get_or (slice_set xs i x) k d)
+pub at_set : {X : Type 0} (P : X → Type 0) (xs : List X) (i k : ℕ) (x d : X) → P x → P (get_or xs k d) → P (get_or (slice_set xs i x) k d)
 at_set P xs i k x d new old =
     elim (cases_lt i (length xs)) [
       | inl inside ↦ elim (cases_eq k i) [

@@ -1,6 +1,6 @@
 -- The table of the keys of a process, and of the thread-specific data of its threads (XSH pthread_key_create, pthread_key_delete,
 -- pthread_getspecific). A call names a thread by its slot, and a key by its place.
-use Rattle.std.specs.Prelude.{◌≡◌, ◌≢◌, ℕ, ◌+◌, ◌*◌, ◌<◌, true, if◌then◌else◌, List, [], length, map, replicate, Option, Some, None, is_some, slice_get, slice_index_or, slice_set}
+use Rattle.std.specs.Prelude.{◌≡◌, ◌≢◌, ℕ, ◌+◌, ◌*◌, ◌<◌, ◌≤◌, true, if◌then◌else◌, List, [], length, map, replicate, Option, Some, None, is_some, slice_get, slice_index_or, slice_set}
 use Rattle.pct_model.specs.declared.limits.TheConstants.{MAX_KEYS}
 use Rattle.pct_model.specs.Keys.{Key, KeyPlace, no_keys, KeyValues, no_values, key_at, next_key, with_key, without_key, value_at, without_value}
 
@@ -28,6 +28,10 @@ row_at table slot = slice_index_or table.rows slot no_row
 -- at a place a thread has the value NULL, and the place is not in its pass
 abbrev pub IsClear : KeyValues → ℕ → Type 0
 IsClear row place = (value_at place row ≡ 0) × (slice_get row.in_pass place ≢ Some true)
+
+-- at no place from one on a thread has a value
+abbrev pub IsUnsetFrom : ℕ → KeyValues → Type 0
+IsUnsetFrom end row = (place : ℕ) → end ≤ place → value_at place row ≡ 0
 
 pub record IsSound (table : Table) : Type 0 where
   pub places : length table.places ≡ MAX_KEYS

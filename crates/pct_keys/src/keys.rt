@@ -40,7 +40,7 @@ impl Keys {
     ghost use Rattle.std.specs.Option.{option_map_or};
     ghost use Rattle.pct_model.specs.declared.limits.TheConstants.{MAX_KEYS, MAX_SLOTS};
     ghost use Rattle.pct_model.specs.Keys.{no_values, key_place, key_at, next_key, key_with, free_places, value_at, with_value, without_value, is_due, due_places, with_pass, is_left, left_places};
-    ghost use Rattle.pct_keys.specs.Tables.{IsClear, IsSound, new_table, row_at, on_row, made_key, with_made, with_deleted, replica_of};
+    ghost use Rattle.pct_keys.specs.Tables.{IsClear, IsSound, IsUnsetFrom, new_table, row_at, on_row, made_key, with_made, with_deleted, replica_of};
 
     /// A table for at most 64 slots, without keys. `NoMemory` is returned if the table does not fit into memory.
     pub fn new(alloc: Global, slots: u32) -> Result<Keys, NoMemory>
@@ -211,11 +211,9 @@ impl Keys {
         requires { slot < length self.now.rows }
         ensures { result ≡ length (due_places self.now.places (row_at self.now slot)) }
     {
-        if !self.was_set(slot) {
-            return 0;
-        }
+        let end = self.end_of(slot);
         let mut count = 0;
-        for place in 0..MAX_KEYS {
+        for place in 0..end {
             count += u32::from(self.is_due(slot, place));
         }
         count
@@ -257,11 +255,9 @@ impl Keys {
         requires { slot < length self.now.rows }
         ensures { result ≡ length (left_places self.now.places (row_at self.now slot)) }
     {
-        if !self.was_set(slot) {
-            return 0;
-        }
+        let end = self.end_of(slot);
         let mut count = 0;
-        for place in 0..MAX_KEYS {
+        for place in 0..end {
             count += u32::from(self.is_left(slot, place));
         }
         count
@@ -275,11 +271,9 @@ impl Keys {
         ensures within { IfSome result (λ place. place < MAX_KEYS) }
         ensures left { IfSome result (λ place. is_left self.now.places (row_at self.now slot) place ≡ true) }
     {
-        if !self.was_set(slot) {
-            return None;
-        }
+        let end = self.end_of(slot);
         let mut rest = n;
-        for place in 0..MAX_KEYS {
+        for place in 0..end {
             if self.is_left(slot, place) {
                 if rest == 0 {
                     return Some(place);
@@ -350,12 +344,13 @@ impl Keys {
         self.places[place as usize].key()
     }
 
-    // Whether the thread on the slot set a value. If it did not, it has no value, and no place is in its pass.
-    fn was_set(&self, slot: u32) -> bool
+    // A place from which on the thread on the slot has no value.
+    fn end_of(&self, slot: u32) -> u32
         requires { slot < length self.now.rows }
-        ensures { result ≡ false → row_at self.now slot ≡ no_values }
+        ensures within { result ≤ MAX_KEYS }
+        ensures unset { IsUnsetFrom result (row_at self.now slot) }
     {
-        self.rows[slot as usize].was_set()
+        self.rows[slot as usize].end()
     }
 
     // Whether the key on the place is due for the thread on the slot.

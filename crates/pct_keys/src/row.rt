@@ -3,6 +3,7 @@
 ghost use Rattle.std.specs.Prelude.{◌≡◌, ◌<◌, ◌≤◌, false, length, map, replicate, slice_get, Some, vec_len, vec_capacity};
 ghost use Rattle.pct_model.specs.declared.limits.TheConstants.{MAX_KEYS};
 ghost use Rattle.pct_model.specs.Keys.{no_values, value_at, with_value, without_value, with_pass};
+ghost use Rattle.pct_keys.specs.Tables.{IsUnsetFrom};
 
 use crate::place::PLACES;
 use std::marker::Model;
@@ -12,19 +13,22 @@ use std::marker::Model;
 pub(crate) struct Row {
     values: [u32; PLACES],
     in_pass: [bool; PLACES],
-    // Whether a value was set since the thread was new. Most threads set none, and their places are not searched.
-    was_set: bool,
+    // No value was set on the places from here on since the thread was new, so they are not searched. Most threads set none.
+    end: u32,
 }
 
 impl Model for Row {
-    ghost use Rattle.std.specs.Prelude.{◌≡◌, false};
+    ghost use Rattle.std.specs.Prelude.{◌≡◌, ◌≤◌};
+    ghost use Rattle.pct_model.specs.declared.limits.TheConstants.{MAX_KEYS};
     ghost use Rattle.pct_model.specs.Keys.{KeyValues, no_values};
+    ghost use Rattle.pct_keys.specs.Tables.{IsUnsetFrom};
 
     ghost Value = { KeyValues };
 
     ghost view = { λ r. record { values = r.values; in_pass = r.in_pass } };
 
-    ghost invariant = { λ r. r.was_set ≡ false → record { values = r.values; in_pass = r.in_pass } ≡ no_values };
+    ghost invariant = { λ r. (r.end ≤ MAX_KEYS) × IsUnsetFrom r.end (record { values = r.values; in_pass = r.in_pass })
+        × (r.end ≡ 0 → record { values = r.values; in_pass = r.in_pass } ≡ no_values) };
 }
 
 impl Row {
@@ -35,15 +39,16 @@ impl Row {
         Row {
             values: [0; PLACES],
             in_pass: [false; PLACES],
-            was_set: false,
+            end: 0,
         }
     }
 
-    /// Whether a value was set since the thread was new.
-    pub(crate) fn was_set(&self) -> bool
-        ensures { result ≡ false → self.now ≡ no_values }
+    /// A place from which on there is no value.
+    pub(crate) fn end(&self) -> u32
+        ensures within { result ≤ MAX_KEYS }
+        ensures unset { IsUnsetFrom result self.now }
     {
-        self.was_set
+        self.end
     }
 
     /// The value of the key on the place.
@@ -68,7 +73,7 @@ impl Row {
         ensures { self.new ≡ with_value place value self.old }
     {
         self.values[place as usize] = value;
-        self.was_set = true;
+        self.end = self.end.max(place + 1);
     }
 
     /// Makes the value of the key on the place 0, and takes the place out of the pass.
@@ -84,7 +89,7 @@ impl Row {
     pub(crate) fn clear_all(&mut self)
         ensures { self.new ≡ no_values }
     {
-        if self.was_set {
+        if self.end != 0 {
             *self = Row::new();
         }
     }
@@ -93,7 +98,7 @@ impl Row {
     pub(crate) fn begin_pass(&mut self)
         ensures { self.new ≡ with_pass self.old }
     {
-        if !self.was_set {
+        if self.end == 0 {
             return;
         }
         for place in 0..PLACES {
@@ -108,7 +113,7 @@ impl Row {
         Row {
             values: self.values,
             in_pass: [false; PLACES],
-            was_set: self.was_set,
+            end: self.end,
         }
     }
 }

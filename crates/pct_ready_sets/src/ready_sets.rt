@@ -141,22 +141,15 @@ impl ReadySets {
 fn no_conditions(alloc: Global) -> Result<Vec<ReadyWhen>, NoMemory>
     ensures { IfOk result (λ v. v.items ≡ replicate 64 ready.Never) }
 {
-    let mut conditions = Vec::with_capacity(alloc, 64)?;
-    for _ in 0..64_usize {
-        conditions.push(ReadyWhen::Never)?;
-    }
-    Ok(conditions)
+    Ok(vec![in alloc; ReadyWhen::Never; 64]?)
 }
 
 // All slots are in the first group.
 fn first_groups(alloc: Global) -> Result<Vec<SlotSet>, NoMemory>
     ensures { IfOk result (λ v. v.items ≡ slots_where (λ _. true) ∷ replicate 98 []) }
 {
-    let mut groups = Vec::with_capacity(alloc, GROUPS)?;
-    groups.push(SlotSet::all())?;
-    for _ in 0..GROUPS - 1 {
-        groups.push(SlotSet::new())?;
-    }
+    let mut groups = vec![in alloc; SlotSet::new(); GROUPS]?;
+    groups[0] = SlotSet::all();
     Ok(groups)
 }
 

@@ -1,3 +1,4 @@
+use Rattle.std.specs.Prelude.{slice_index}
 use Rattle.pct_names.proofs.Names.{◌<◌, ap, arith, Bool, false, get_or, KeyValues, length, length-map, List, map, nat_eq, not, sym}
 use Rattle.pct_names.proofs.Names.{with_pass, ℕ, ◌∙◌, ◌≡◌}
 use Rattle.std.proofs.lemmas.List.{ext_get_or, get_or-map}
@@ -13,6 +14,11 @@ passed own values marks same long marked =
     let P : List Bool → KeyValues = λ passed. record { values = values; in_pass = passed } in
     let Q : List ℕ → KeyValues = λ start. record { values = start; in_pass = map (λ value. not (nat_eq value 0)) start } in
     ap P all ∙ ap Q same
+
+pub invariant_of-self : goal.invariant_of-self
+invariant_of-self c =
+    let loop = c.loop-place.invariant in
+    (loop.few, λ place past. ap (λ values. slice_index values place) loop.same ∙ loop.unset place past, λ none. absurd (loop.some none))
 
 pub returns : goal.returns
 returns c =
