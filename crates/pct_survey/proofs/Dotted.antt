@@ -1,5 +1,5 @@
 -- Bytes that begin with others, and two numbers with a dot between them.
-use Rattle.pct_names.proofs.Names.{◌&&◌, ◌++◌, [], ap, ap₂, Bool, bytes_eq, decimal, drop, false, length, List, nat_eq, refl, subst, sym, take, true, ℕ, ◌∙◌, ◌∷◌, ◌≡◌}
+use Rattle.pct_names.proofs.Names.{◌&&◌, ◌++◌, [], ap, ap₂, Bool, bytes_eq, drop, false, length, List, nat_eq, refl, sym, take, true, ℕ, ◌∙◌, ◌∷◌, ◌≡◌}
 
 and_again : (a b c : Bool) → (a && (b && c)) ≡ ((a && b) && c)
 and_again true b c = refl

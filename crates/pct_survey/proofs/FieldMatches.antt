@@ -1,6 +1,7 @@
 -- Which texts a pattern matches, one by one.
 use Rattle.std.proofs.lemmas.List.{at_drop_all, at_drop_more}
-use Rattle.pct_names.proofs.Names.{◌&&◌, ◌+◌, ◌<◌, ◌≢◌, [], ap, arith, Bool, drop, false, get_or, length, List, map, refl, suc, sym, true, ℕ, ◌∙◌, ◌∷◌, ◌≡◌, ◌≤◌}
+use Rattle.std.proofs.lemmas.Option.{none-some}
+use Rattle.pct_names.proofs.Names.{◌&&◌, ◌+◌, ◌<◌, ◌≢◌, [], ap, arith, Bool, drop, false, get_or, length, List, map, refl, suc, sym, true, ℕ, ◌∙◌, ◌∷◌, ◌≡◌, ◌≤◌, same_Some, slice_get, Some}
 use Rattle.pct_expect.specs.Events.{matches, word_matches}
 
 and_none : (b : Bool) → false ≡ (b && false)
@@ -53,3 +54,24 @@ module _ {X : Type 0} (text : X → List ℕ) where
       ∙ at_drop_all (λ (left : List (List ℕ)). matches left (map text (drop i xs))) pattern i past
       ∙ at_drop_all (λ (left : List X). matches [] (map text left)) xs i also
       ∙ none_left)
+
+-- ---- the second word
+
+module _ (thread word : List ℕ) where
+  -- a pattern has fewer than two words
+  pub too_short : (pattern words : List (List ℕ)) → slice_get words 0 ≡ Some word → length pattern < 2 → false ≡ matches pattern (thread ∷ words)
+  unfolding matches
+  too_short [] words is short = refl
+  too_short (a ∷ []) [] is short = absurd (none-some word is)
+  too_short (a ∷ []) (w ∷ words) is short = and_none (word_matches a thread)
+  too_short (a ∷ b ∷ pattern) words is short = absurd (omega (arith, short))
+
+  -- its second word does not match
+  pub other_word : (pattern words : List (List ℕ)) (d : List ℕ) → slice_get words 0 ≡ Some word → 2 ≤ length pattern → false ≡ word_matches (get_or pattern 1 d) word → false ≡ matches pattern (thread ∷ words)
+  unfolding matches
+  other_word [] words d is long lacks = absurd (omega (arith, long))
+  other_word (a ∷ []) words d is long lacks = absurd (omega (arith, long))
+  other_word (a ∷ b ∷ pattern) [] d is long lacks = absurd (none-some word is)
+  other_word (a ∷ b ∷ pattern) (w ∷ words) d is long lacks =
+      and_none (word_matches a thread)
+      ∙ ap (λ (t : Bool). word_matches a thread && t) (ap (λ (t : Bool). t && matches pattern words) (lacks ∙ ap (word_matches b) (sym (same_Some w word is))))

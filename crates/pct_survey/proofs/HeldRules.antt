@@ -1,14 +1,14 @@
 -- Which rules hold, by what their loops have found.
 use Rattle.std.proofs.lemmas.Bool.{eqb-true, eq-eqb}
 use Rattle.std.specs.Bool.{Decides}
-use Rattle.pct_names.proofs.Names.{◌||◌, ◌++◌, ◌==◌, [], AllZip, ap, Bool, cases_Bool, count_by, cond, false, false≢true, inl, inr, List, list_any, map, nat_eq, None, not, Option}
-use Rattle.pct_names.proofs.Names.{or_cases, refl, slice_get, Some, suc, sym, true, zero, ℕ, ◌∙◌, ◌∷◌, ◌≡◌, ◌+◌, ◌≤◌, bytes_eq, option_map_or, or-true, sum_by-cons}
+use Rattle.pct_names.proofs.Names.{◌==◌, [], ap, ap₂, arith, Bool, count_by, cond, false, false≢true, List, list_any, map, not}
+use Rattle.pct_names.proofs.Names.{refl, slice_get, suc, sym, true, zero, ℕ, ◌∙◌, ◌∷◌, ◌≡◌, ◌+◌, ◌≤◌, bytes_eq, option_map_or, sum_by-cons}
 use Rattle.pct_expect.specs.declared.rule.Rule.{Rule}
 use Rattle.pct_expect.specs.declared.rule.RuleKind.TheVariants as kind
 use Rattle.pct_expect.specs.Answers.{HasLater, HasLaterInThread, HoldsAs}
-use Rattle.pct_expect.specs.Events.{MatchesAt, matches, thread_at}
+use Rattle.pct_expect.specs.Events.{MatchesAt, thread_at}
 use Rattle.pct_expect.proofs.Failures.{refuted}
-use Rattle.pct_expect.proofs.RuleFailures.{AreFollowed, FoundAfter, FoundInThread, after_here, thread_here}
+use Rattle.pct_expect.proofs.RuleFailures.{AreFollowed, after_here, thread_here}
 
 -- a test that is passed, and one that is not
 pub yes : {P : Type 0} → P → Decides true P
@@ -27,26 +27,30 @@ module _ {X Y : Type 0} (line : X → Y) (test : Y → Bool) where
   abbrev At : List X → ℕ → Type 0
   At xs i = option_map_or test (slice_get (map line xs) i) false ≡ true
 
-  some_there : (xs : List X) → list_any (λ x. test (line x)) xs ≡ true → (i : ℕ) × At xs i
-  some_there [] is = absurd (false≢true is)
-  some_there (x ∷ xs) is =
-      elim (or_cases (test (line x)) (list_any (λ y. test (line y)) xs) is) [
-        | inl here ↦ (0, here)
-        | inr later ↦ let more = some_there xs later in (suc more.0, more.1)
-      ]
+  counted_none : (xs : List X) → count_by (λ x. test (line x)) xs ≡ 0 → (i : ℕ) → At xs i → ⊥
+  counted_none [] is i at = false≢true at
+  counted_none (x ∷ xs) is zero at =
+      let one : ◌≡◌ {A = ℕ} (cond (test (line x)) 1 0) 1 = ap (λ (t : Bool). cond t 1 0) at in
+      let all : count_by (λ y. test (line y)) (x ∷ xs) ≡ cond (test (line x)) 1 0 + count_by (λ y. test (line y)) xs = sum_by-cons (λ y. cond (test (line y)) 1 0) x xs in
+      absurd (omega (arith, is, one, all))
+  counted_none (x ∷ xs) is (suc i) at =
+      let all : count_by (λ y. test (line y)) (x ∷ xs) ≡ cond (test (line x)) 1 0 + count_by (λ y. test (line y)) xs = sum_by-cons (λ y. cond (test (line y)) 1 0) x xs in
+      counted_none xs (omega (arith, is, all)) i at
 
-  none_there : (xs : List X) → list_any (λ x. test (line x)) xs ≡ false → (i : ℕ) → At xs i → ⊥
-  none_there [] is i at = false≢true at
-  none_there (x ∷ xs) is zero at = false≢true (sym is ∙ ap (λ (t : Bool). t || list_any (λ y. test (line y)) xs) at)
-  none_there (x ∷ xs) is (suc i) at = none_there xs (later_none (test (line x)) (list_any (λ y. test (line y)) xs) is) i at
+  none_counts : (xs : List X) → ((i : ℕ) → At xs i → ⊥) → count_by (λ x. test (line x)) xs ≡ 0
+  none_counts [] none = refl
+  none_counts (x ∷ xs) none =
+      let here : ◌≡◌ {A = ℕ} (cond (test (line x)) 1 0) 0 = fails (test (line x)) (none 0) in
+      let more = none_counts xs (λ i. none (suc i)) in
+      sum_by-cons (λ y. cond (test (line y)) 1 0) x xs ∙ ap₂ ◌+◌ here more
     where
-      later_none : (a b : Bool) → (a || b) ≡ false → b ≡ false
-      later_none true b e = absurd (false≢true (sym e))
-      later_none false b e = e
+      fails : (b : Bool) → (b ≡ true → ⊥) → ◌≡◌ {A = ℕ} (cond b 1 0) 0
+      fails true not = absurd (not refl)
+      fails false not = refl
 
-  pub never_tested : (xs : List X) (r : Bool) → r ≡ list_any (λ x. test (line x)) xs → Decides (not r) ((i : ℕ) → At xs i → ⊥)
-  never_tested xs true is = no (λ none. let some = some_there xs (sym is) in none some.0 some.1)
-  never_tested xs false is = yes (none_there xs (sym is))
+  -- none is counted exactly if no event matches
+  pub never_counted : (xs : List X) (n : ℕ) → n ≡ count_by (λ x. test (line x)) xs → Decides (n == 0) ((i : ℕ) → At xs i → ⊥)
+  never_counted xs n is = ((λ e. counted_none xs (sym is ∙ eqb-true n 0 e)), (λ none. eq-eqb n 0 (is ∙ none_counts xs none)))
 
   pub count_mapped : (xs : List X) → count_by test (map line xs) ≡ count_by (λ x. test (line x)) xs
   count_mapped [] = refl

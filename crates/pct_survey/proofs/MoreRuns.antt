@@ -1,13 +1,12 @@
 -- What is counted of some runs and of more of them.
 use Rattle.std.proofs.lemmas.List.Sums.{sum_by-append}
-use Rattle.pct_names.proofs.Names.{◌++◌, ◌+◌, ◌-◌, ◌≤◌, [], All, All-map, AllZip, ap, arith, Bool, cond, count_by-le-length, enumerate_from, get_or, length, length-range_with_len, List, map, range_with_len}
-use Rattle.pct_names.proofs.Names.{refl, Script, Config, subst, subst₂, suc, sym, Verdict, zero, ℕ, ◌∙◌, ◌∷◌, ◌≡◌}
+use Rattle.pct_names.proofs.Names.{◌++◌, ◌+◌, ◌≤◌, [], All-map, AllZip, ap, arith, Bool, cond, count_by-le-length, enumerate_from, get_or, length, length-range_with_len, List, map, range_with_len}
+use Rattle.pct_names.proofs.Names.{refl, Script, Config, subst, suc, sym, Verdict, zero, ℕ, ◌∙◌, ◌∷◌, ◌≡◌}
 use Rattle.pct_expect.specs.declared.rule.Rule.{Rule}
 use Rattle.pct_sample.proofs.OkRuns.{all_length}
-use Rattle.pct_tallies.specs.declared.seeds.Seeds.{Seeds}
-use Rattle.pct_tallies.specs.Seeds.{seeds_in}
 use Rattle.pct_tallies.specs.Sums.{no_runs, sum_of_counts}
 use Rattle.pct_tallies.proofs.SumsOfRuns.{first_append}
+use Rattle.pct_survey.proofs.CollectedRuns.{all_zip-append}
 use Rattle.pct_survey.specs.declared.counting.EndingCount.{EndingCount}
 use Rattle.pct_survey.specs.declared.counting.RuleCount.{RuleCount}
 use Rattle.pct_survey.specs.declared.counting.Survey.{Survey}
@@ -60,12 +59,6 @@ are_few rules runs few = record {
 
 -- ---- seeds
 
-all_zip-append : {X Y : Type 0} (R : X → Y → Type 0) (xs more : List X) (ys others : List Y) → AllZip R xs ys → AllZip R more others → AllZip R (xs ++ more) (ys ++ others)
-all_zip-append R [] more [] others x y = y
-all_zip-append R [] more (b ∷ ys) others x y = absurd x
-all_zip-append R (a ∷ xs) more [] others x y = absurd x
-all_zip-append R (a ∷ xs) more (b ∷ ys) others x y = (x.0, all_zip-append R xs more ys others x.1 y)
-
 range-append : (first n m : ℕ) → range_with_len first (n + m) ≡ range_with_len first n ++ range_with_len (first + n) m
 range-append first zero m =
     let none : 0 + m ≡ m = omega arith in
@@ -89,13 +82,6 @@ module _ (script : Script) (config : Config) (rules : List Rule) where
   survey_is_few count survey few x =
       let as_many : length x.runs ≡ count = run_count 1 count x.runs x.of_seeds in
       subst AreFew (sym x.counted) (are_few rules x.runs (omega (arith, as_many, few)))
-
-  -- the runs of so many seeds after others
-  pub each_after : (done more : ℕ) (seeds : Seeds) (runs : List JudgedRun) → seeds.first ≡ done + 1 → seeds.last ≡ done + more → AllZip (IsJudgedRun script config rules) (seeds_in seeds) runs
-      → AllZip (IsJudgedRun script config rules) (range_with_len (done + 1) more) runs
-  each_after done more seeds runs first last each =
-      let count : seeds.last + 1 - seeds.first ≡ more = omega (arith, first, last) in
-      subst₂ (λ (a n : ℕ). AllZip (IsJudgedRun script config rules) (range_with_len a n) runs) first count each
 
   -- the seeds right after others
   pub more_seeds : (done more : ℕ) (survey later : Survey) (runs : List JudgedRun) → IsSurveyOf script config rules done survey

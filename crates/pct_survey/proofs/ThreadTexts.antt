@@ -9,9 +9,8 @@ use Rattle.std.specs.Bool.{Decides}
 use Rattle.std.specs.Cmp.{tied_then}
 use Rattle.std.specs.Ordering.{is_eq, nat_cmp, ordering_then}
 use Rattle.std.specs.declared.cmp.Ordering.{Ordering}
-use Rattle.std.specs.declared.cmp.Ordering.TheVariants.{Equal}
-use Rattle.pct_names.proofs.Names.{◌&&◌, ◌||◌, and_from, nat_eq, nat_tests, ◌++◌, ◌<◌, ◌^◌, [], All, All-head, All-tail, and_parts, ap, ap₂, arith, Bool, bytes_eq, decimal, drop, false, false≢true, get_or, is_digit}
-use Rattle.pct_names.proofs.Names.{List, list_all, list_any, map, refl, subst, sym, thread_text, true, ℕ, ◌∙◌, ◌∷◌, ◌≡◌}
+use Rattle.pct_names.proofs.Names.{◌&&◌, ◌||◌, and_from, nat_eq, nat_tests, ◌++◌, ◌<◌, ◌^◌, [], All, All-head, All-tail, and_parts, ap, ap₂, arith, Bool, bytes_eq, decimal, drop, false≢true, get_or, is_digit}
+use Rattle.pct_names.proofs.Names.{List, list_all, list_any, map, refl, sym, thread_text, true, ℕ, ◌∙◌, ◌∷◌, ◌≡◌}
 use Rattle.pct_expect.proofs.InsertedKeys.{any_inserted}
 use Rattle.pct_text.proofs.Numbers.{digits_of_decimal}
 

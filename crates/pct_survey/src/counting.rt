@@ -1,10 +1,10 @@
 //! What is counted of judged runs.
 
-ghost use Rattle.std.specs.Prelude.{◌≡◌, ◌≤◌, [], All, IfOk, count_by, find, length, map, option_map};
+ghost use Rattle.std.specs.Prelude.{◌≡◌, ◌≤◌, [], All, IfOk, length, map};
 ghost use Rattle.std.specs.List.{enumerate_from};
 ghost use Rattle.pct_tallies.specs.Sums.{no_runs, sum_of_counts};
 ghost use Rattle.pct_survey.specs.declared.surveying.TheConstants.{CHUNK, MAX_SURVEYED};
-ghost use Rattle.pct_survey.specs.Surveys.{all_endings, count_of, first_of, has, has_failure, survey_of};
+ghost use Rattle.pct_survey.specs.Surveys.{all_endings, count_of, has, has_failure, survey_of};
 ghost use Rattle.pct_survey.specs.MoreRuns.{AreFew, IsFewOfEnding, IsFewOfRule, ending_with, rule_with, survey_with};
 
 use crate::judging::JudgedRun;
@@ -13,10 +13,10 @@ use pct_expect::Rule;
 use pct_io::NoMemory;
 use pct_model::{Sequence, Verdict, Why};
 use pct_tallies::Count;
-use std::alloc::{AllocError, Global};
+use std::alloc::Global;
 
 /// What is counted of a rule.
-#[derive(Clone, Copy, Debug, PartialEq, Eq)]
+#[derive(Clone, Copy)]
 pub struct RuleCount {
     /// The line of the rule, counted from 1.
     pub line: u32,
@@ -27,7 +27,7 @@ pub struct RuleCount {
 }
 
 /// The runs with a verdict.
-#[derive(Clone, Copy, Debug, PartialEq, Eq)]
+#[derive(Clone, Copy)]
 pub struct EndingCount {
     pub verdict: Verdict,
     pub count: Count,
@@ -66,7 +66,7 @@ impl Survey {
         })
     }
 
-    /// What is counted of some runs, and of more of them: at most 1,000.
+    /// What is counted of some runs, and of more of them: at most 10,000.
     pub(crate) fn with(&self, alloc: Global, runs: &[JudgedRun]) -> Result<Survey, NoMemory>
         requires counts { AreFew self.now }
         requires runs { length runs.now ≤ CHUNK }
@@ -106,17 +106,18 @@ static ALL_ENDINGS: [Verdict; 19] = [
     Verdict::Undefined(Why::CleanupFull),
 ];
 
-fn uncounted_rules(alloc: Global, rules: &[Rule]) -> Result<Vec<RuleCount>, AllocError>
+fn uncounted_rules(alloc: Global, rules: &[Rule]) -> Result<Vec<RuleCount>, NoMemory>
     ensures { IfOk result (λ counts. counts.items ≡ map (λ rule. record { line = rule.line; holds = no_runs; fails = no_runs }) rules.now) }
 {
-    rules
-        .iter()
-        .map(|rule| RuleCount {
+    let mut counts = Vec::new(alloc);
+    for rule in rules {
+        counts.push(RuleCount {
             line: rule.line,
             holds: NO_RUNS,
             fails: NO_RUNS,
-        })
-        .collect(alloc)
+        })?;
+    }
+    Ok(counts)
 }
 
 #[tactic(auto, unfolding(crate::specs::Surveys::all_endings, pct_tallies::specs::Tallies::all_stops))]
@@ -126,16 +127,17 @@ fn uncounted_endings(alloc: Global) -> Result<EndingCounts, NoMemory>
     Ok(Sequence::of(uncounted(alloc, ALL_ENDINGS.as_slice())?))
 }
 
-fn uncounted(alloc: Global, verdicts: &[Verdict]) -> Result<Vec<EndingCount>, AllocError>
+fn uncounted(alloc: Global, verdicts: &[Verdict]) -> Result<Vec<EndingCount>, NoMemory>
     ensures { IfOk result (λ counts. counts.items ≡ map (λ v. record { verdict = v; count = no_runs }) verdicts.now) }
 {
-    verdicts
-        .iter()
-        .map(|verdict| EndingCount {
+    let mut counts = Vec::new(alloc);
+    for verdict in verdicts {
+        counts.push(EndingCount {
             verdict: *verdict,
             count: NO_RUNS,
-        })
-        .collect(alloc)
+        })?;
+    }
+    Ok(counts)
 }
 
 // ---- more runs
@@ -201,35 +203,30 @@ fn count_with(count: Count, property: Property, runs: &[JudgedRun]) -> Count
     requires runs { length runs.now ≤ CHUNK }
     ensures { result ≡ sum_of_counts count (count_of (has property) runs.now) }
 {
+    let more = count_of(property, runs);
     Count {
-        runs: count.runs + runs_with(property, runs),
+        runs: count.runs + more.runs,
         first: if count.runs == 0 {
-            first_with(property, runs)
+            more.first
         } else {
             count.first
         },
     }
 }
 
-// The number of the runs with a property.
-fn runs_with(property: Property, runs: &[JudgedRun]) -> u64
-    ensures { result ≡ count_by (has property) runs.now }
+// The number of the runs with a property, and the seed of the first of them.
+fn count_of(property: Property, runs: &[JudgedRun]) -> Count
+    ensures { result ≡ count_of (has property) runs.now }
 {
-    runs.iter().filter(|run| property.is_of(run)).count() as u64
-}
-
-// The seed of the first of them, 0 if there is none.
-fn first_with(property: Property, runs: &[JudgedRun]) -> u64
-    ensures { result ≡ first_of (has property) runs.now }
-{
-    first_seed(property, runs).unwrap_or(0)
-}
-
-// The same, where there is one.
-fn first_seed(property: Property, runs: &[JudgedRun]) -> Option<u64>
-    ensures { result ≡ option_map (λ run. run.seed) (find (has property) runs.now) }
-{
-    runs.iter()
-        .find(|run| property.is_of(run))
-        .map(|run| run.seed)
+    let mut count = NO_RUNS;
+    for index in (0..runs.len()).rev() {
+        let run = &runs[index];
+        if property.is_of(run) {
+            count = Count {
+                runs: count.runs + 1,
+                first: run.seed,
+            };
+        }
+    }
+    count
 }

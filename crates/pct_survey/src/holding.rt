@@ -2,8 +2,7 @@
 
 ghost use Rattle.std.specs.Prelude.{◌≡◌, IfOk, count_by, map};
 ghost use Rattle.std.specs.Bool.{Decides};
-ghost use Rattle.std.specs.List.{list_any};
-ghost use Rattle.pct_expect.specs.declared.rule.RuleKind.TheVariants.{After, Before, Count, Never, Thread};
+ghost use Rattle.pct_expect.specs.declared.rule.RuleKind.TheVariants.{After, Before, Thread};
 ghost use Rattle.pct_expect.specs.Answers.{Holds, HoldsAs};
 ghost use Rattle.pct_expect.specs.Events.{matches};
 ghost use Rattle.pct_model.specs.Report.{event_line};
@@ -37,43 +36,28 @@ fn is_held(alloc: Global, script: &Script, events: &[Event], rule: &Rule) -> Res
     ensures { IfOk result (λ held. Decides held (Holds rule.now (map (event_line script.now) events.now))) }
 {
     match rule.kind {
-        RuleKind::Never => Ok(never_held(script, events, rule)),
-        RuleKind::Count => Ok(count_held(script, events, rule)),
+        RuleKind::Never => Ok(count_matches(script, events, rule.first.as_slice()) == 0),
+        RuleKind::Count => {
+            let count = count_matches(script, events, rule.first.as_slice());
+            Ok(count == rule.number as usize)
+        }
         RuleKind::Before => Ok(before_held(script, events, rule)),
         RuleKind::After => Ok(after_held(script, events, rule)),
         RuleKind::Thread => thread_held(alloc, script, events, rule),
     }
 }
 
-// Of a rule of kind `Never`.
-fn never_held(script: &Script, events: &[Event], rule: &Rule) -> bool
-    ensures { Decides result (HoldsAs Never rule.now (map (event_line script.now) events.now)) }
-{
-    !has_match(script, events, rule.first.as_slice())
-}
-
-// Whether a pattern matches an event.
-fn has_match(script: &Script, events: &[Event], pattern: &[Word]) -> bool
-    ensures { result ≡ list_any (λ event. matches pattern.now (event_line script.now event)) events.now }
-{
-    events.iter().any(|event| is_match(script, event, pattern))
-}
-
-// Of a rule of kind `Count`.
-fn count_held(script: &Script, events: &[Event], rule: &Rule) -> bool
-    ensures { Decides result (HoldsAs Count rule.now (map (event_line script.now) events.now)) }
-{
-    count_matches(script, events, rule.first.as_slice()) == rule.number as usize
-}
-
 // How many events a pattern matches.
 fn count_matches(script: &Script, events: &[Event], pattern: &[Word]) -> usize
     ensures { result ≡ count_by (λ event. matches pattern.now (event_line script.now event)) events.now }
 {
-    events
-        .iter()
-        .filter(|event| is_match(script, event, pattern))
-        .count()
+    let mut count = 0;
+    for event in events {
+        if is_match(script, event, pattern) {
+            count += 1;
+        }
+    }
+    count
 }
 
 // Of a rule of kind `Before`: of the events that match a pattern the first does not match the second.

@@ -12,7 +12,7 @@ mod surveying;
 mod threads;
 
 pub use counting::{EndingCount, EndingCounts, RuleCount, RuleCounts, Survey};
-pub use judging::{JudgedRun, Subject, judged_run};
+pub use judging::{JudgedRun, Subject};
 pub use law::surveys_are_one;
 pub use property::Property;
 pub use survey_text::write_survey;

@@ -1,19 +1,47 @@
 //! Which events a pattern matches.
 
-ghost use Rattle.std.specs.Prelude.{◌≡◌, ◌∷◌, ◌++◌, bytes_eq, decimal, map};
+ghost use Rattle.std.specs.Prelude.{◌≡◌, ◌∷◌, ◌++◌, Some, bytes_eq, decimal, map, slice_get};
 ghost use Rattle.pct_expect.specs.Events.{matches, word_matches};
 ghost use Rattle.pct_io.specs.Fields.{field_text};
+ghost use Rattle.pct_model.specs.EventTexts.{event_words};
 ghost use Rattle.pct_model.specs.Report.{event_line};
 
 use itoa::Buffer;
 use pct_expect::Word;
 use pct_io::Field;
-use pct_model::{Event, Script};
+use pct_model::{Event, Script, What};
 use pct_report::{Fields, fields_of_event};
 
 /// Whether a pattern matches an event of a script, whose words are those of its line in a report.
-#[tactic(auto, unfolding(pct_model::specs::Report::event_line, pct_model::specs::Report::thread_text))]
 pub(crate) fn is_match(script: &Script, event: &Event, pattern: &[Word]) -> bool
+    ensures { result ≡ matches pattern.now (event_line script.now event.now) }
+{
+    // The second word tells most events apart, so it is compared before the others are made.
+    let word = word_of(script, event.what);
+    if pattern.len() < 2 {
+        return false;
+    }
+    if !word_matches(pattern[1].as_slice(), &word) {
+        return false;
+    }
+    are_words(script, event, pattern)
+}
+
+// The word of an event, which is the second of its line.
+fn word_of(script: &Script, what: What) -> Field<'static>
+    ensures { slice_get (event_words script.now what) 0 ≡ Some (field_text result) }
+{
+    match fields_of_event(script, what) {
+        Fields::One(word, _) => Field::Text(word.text()),
+        Fields::Two(word, _, _) => Field::Text(word.text()),
+        Fields::Three(word, _, _, _) => Field::Text(word.text()),
+        Fields::Four(word, _, _, _, _) => Field::Text(word.text()),
+    }
+}
+
+// Whether a pattern matches the words of an event.
+#[tactic(auto, unfolding(pct_model::specs::Report::event_line, pct_model::specs::Report::thread_text))]
+fn are_words(script: &Script, event: &Event, pattern: &[Word]) -> bool
     ensures { result ≡ matches pattern.now (event_line script.now event.now) }
 {
     let thread = Field::Dotted(event.pid, event.tid);

@@ -45,7 +45,7 @@ fn write_rules<K: Sink>(sink: &mut K, rules: &[RuleCount]) -> Result<(), Failed>
 fn write_rule<K: Sink>(sink: &mut K, rule: RuleCount) -> Result<(), Failed>
     ensures { Writes K.written K.errors K.inners sink.old sink.new (rule_text rule) result }
 {
-    write_line_number(sink, rule.line)?;
+    write_digits(sink, rule.line as u64)?;
     write_number(sink, b"\tholds ", rule.holds.runs)?;
     write_number(sink, b"\tfails ", rule.fails.runs)?;
     write_first(sink, rule.holds)?;
@@ -106,13 +106,6 @@ fn write_number<K: Sink>(sink: &mut K, bytes: &[u8], number: u64) -> Result<(), 
 {
     write_all(sink, bytes)?;
     write_digits(sink, number)
-}
-
-// Writes the number of a line in decimal.
-fn write_line_number<K: Sink>(sink: &mut K, line: u32) -> Result<(), Failed>
-    ensures { Writes K.written K.errors K.inners sink.old sink.new (decimal line) result }
-{
-    write_all(sink, Buffer::new().format(line).as_bytes())
 }
 
 // Writes a number in decimal.

@@ -1,4 +1,4 @@
-use Rattle.pct_names.proofs.Names.{◌++◌, [], ap, sym, ◌∙◌, ◌∷◌}
+use Rattle.pct_names.proofs.Names.{◌++◌, [], sym, ◌∙◌, ◌∷◌}
 use Rattle.pct_survey.specs.MoreRuns.{ending_with}
 use Rattle.pct_survey.proofs.CountedLists.{mapped_more}
 use Rattle.pct_survey.proofs.counting.endings_with.Goals as goal

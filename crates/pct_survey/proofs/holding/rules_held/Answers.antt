@@ -1,6 +1,6 @@
 use Rattle.std.proofs.lemmas.List.{take_more}
 use Rattle.std.specs.Bool.{Decides}
-use Rattle.pct_names.proofs.Names.{◌++◌, ◌+◌, [], ap, AllZip, Bool, get_or, List, subst, sym, take, ◌∙◌, ◌∷◌, ◌≡◌}
+use Rattle.pct_names.proofs.Names.{◌++◌, ◌+◌, [], ap, AllZip, Bool, List, subst, sym, take, ◌∙◌, ◌∷◌, ◌≡◌}
 use Rattle.pct_expect.specs.declared.rule.Rule.{Rule}
 use Rattle.pct_expect.specs.Answers.{Holds}
 use Rattle.pct_expect.proofs.RuleAnswers.{one_more_pair}

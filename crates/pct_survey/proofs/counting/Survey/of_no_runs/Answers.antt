@@ -1,4 +1,4 @@
-use Rattle.pct_names.proofs.Names.{sym, ◌∙◌}
+use Rattle.pct_names.proofs.Names.{◌∙◌}
 use Rattle.pct_survey.specs.Surveys.{all_endings}
 use Rattle.pct_survey.proofs.MoreRuns.{endings_none, rules_uncounted}
 use Rattle.pct_survey.proofs.counting.Survey.of_no_runs.Goals as goal

@@ -1,4 +1,4 @@
-use Rattle.pct_names.proofs.Names.{ap, arith, bytes_eq, list_any, thread_text, ◌∙◌}
+use Rattle.pct_names.proofs.Names.{ap, bytes_eq, list_any, thread_text, ◌∙◌}
 use Rattle.pct_survey.proofs.ThreadTexts.{any_thread}
 use Rattle.pct_survey.proofs.threads.ThreadSet.contains.Goals as goal
 
