@@ -74,45 +74,32 @@ fn summary_of(engine: &Engine, seed: u64) -> SeedRun
     ensures seed { result.seed ≡ seed }
     ensures counted { (after : Run) → IsRunOf engine.now after → IsSummaryOf engine.now.script engine.now.config engine.now.history after result }
 {
-    let events = engine.events();
+    let steps = engine.history().len() as u32;
+    let (joined, canceled) = count_joins(engine.events());
     SeedRun {
         seed,
         verdict: engine.verdict(),
-        steps: engine.history().len() as u32,
-        joined: count_joined(events),
-        canceled: count_canceled(events),
+        steps,
+        joined,
+        canceled,
     }
 }
 
-// The number of the events `joined`.
-fn count_joined(events: &[Event]) -> u32
+// The number of the events `joined`, and of those with the value of a canceled thread.
+fn count_joins(events: &[Event]) -> (u32, u32)
     requires { length events.now ≤ 3 * MAX_BUDGET }
-    ensures { result ≡ count_by is_joined events.now }
+    ensures joined { result.0 ≡ count_by is_joined events.now }
+    ensures canceled { result.1 ≡ count_by is_canceled events.now }
 {
-    events.iter().filter(|event| is_joined(event)).count() as u32
-}
-
-// The number of those with the value of a canceled thread.
-fn count_canceled(events: &[Event]) -> u32
-    requires { length events.now ≤ 3 * MAX_BUDGET }
-    ensures { result ≡ count_by is_canceled events.now }
-{
-    events.iter().filter(|event| is_canceled(event)).count() as u32
-}
-
-// Whether an event is `joined`.
-fn is_joined(event: &Event) -> bool
-    ensures { result ≡ is_joined event.now }
-{
-    matches!(event.what, What::Joined(_, _))
-}
-
-// Whether it is, with the value of a canceled thread.
-fn is_canceled(event: &Event) -> bool
-    ensures { result ≡ is_canceled event.now }
-{
-    match event.what {
-        What::Joined(_, value) => value == PTHREAD_CANCELED,
-        _ => false,
+    let mut joined = 0;
+    let mut canceled = 0;
+    for event in events {
+        if let What::Joined(_, value) = event.what {
+            joined += 1;
+            if value == PTHREAD_CANCELED {
+                canceled += 1;
+            }
+        }
     }
+    (joined, canceled)
 }

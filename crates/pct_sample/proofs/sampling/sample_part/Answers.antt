@@ -1,32 +1,43 @@
-use Rattle.std.proofs.Common.{ap, arith, subst, sym, ◌∙◌}
+use Rattle.std.proofs.Common.{◌≡◌, ℕ, ◌+◌, ◌*◌, ◌-◌, ap, arith, length, List, min, subst, subst₂, sym, ◌∙◌}
+use Rattle.std.specs.List.{AllZip, range_with_len}
+use Rattle.std.proofs.lemmas.List.FromFn.{length-range_with_len}
+use Rattle.rayon.proofs.ListFacts.{IfOk-then}
 use Rattle.pct_model.specs.declared.script.Script.{Script}
 use Rattle.pct_engine.specs.EngineStates.{EngineValue}
-use Rattle.pct_sample.specs.Samples.{TallyOf}
-use Rattle.pct_sample.specs.SeedRuns.{config_of}
-use Rattle.pct_sample.proofs.LongerTallies.{longer_tally, tallies_fit, whole_tally}
+use Rattle.pct_tallies.specs.declared.seed_run.SeedRun.{SeedRun}
+use Rattle.pct_tallies.specs.Seeds.{seed_count}
+use Rattle.pct_tallies.specs.Tallies.{tally_of}
+use Rattle.pct_sample.specs.SeedRuns.{IsRunOfSeed}
+use Rattle.pct_sample.proofs.LongerRows.{longer_rows}
+use Rattle.pct_sample.proofs.OkRuns.{all_length}
 use Rattle.pct_sample.proofs.sampling.sample_part.Goals as goal
 
-pub sum_of-requires : goal.sum_of-requires
-sum_of-requires c =
-    let next = c.first_chunk-next in
-    let counted = subst (λ (s : Script). TallyOf s next.result c.in_ok-chunk.chunk) c.loop-done.invariant.script c.in_ok-chunk.ensures.tally in
-    tallies_fit c.args.script.now (record { first = c.args.seeds.first; last = c.loop-done.done.last }) next.result c.loop-done.tally c.in_ok-chunk.chunk
-    (omega (arith, c.requires.few, next.ensures.first, next.ensures.last, next.ensures.range.some, c.loop-done.invariant.begun))
-    c.loop-done.invariant.counted counted
-
-pub loop-done-preserved : goal.loop-done-preserved
-loop-done-preserved c =
-    let next = c.first_chunk-next in
-    let same = c.in_ok-chunk.ensures.same in
-    let counted = subst (λ (s : Script). TallyOf s next.result c.in_ok-chunk.chunk) c.loop-done.invariant.script c.in_ok-chunk.ensures.tally in
+pub loop-more-preserved : goal.loop-more-preserved
+loop-more-preserved c =
+    let first = c.args.seeds.first + c.min-before.result in
+    let more = c.loop-more.more in
+    let same = c.run_seed.ensures.same in
+    let run = subst (λ (s : Script). IsRunOfSeed s (first + more) c.run_seed.result) c.loop-more.invariant.script c.run_seed.ensures.run in
     record {
-      script = ap (λ (v : EngineValue). v.script) same ∙ c.loop-done.invariant.script;
-      config = ap (λ (v : EngineValue). v.config) same ∙ c.loop-done.invariant.config;
-      counted = longer_tally c.args.script.now c.args.seeds.first c.loop-done.done.last next.result c.loop-done.tally c.in_ok-chunk.chunk c.in_ok-tally-2.tally c.loop-done.invariant.begun
-          next.ensures.range next.ensures.first c.loop-done.invariant.counted counted c.in_ok-tally-2.ensures;
-      begun = omega (arith, next.ensures.first, next.ensures.range.some, c.loop-done.invariant.begun);
-      within = omega (arith, next.ensures.last);
+      script = ap (λ (v : EngineValue). v.script) same ∙ c.loop-more.invariant.script;
+      config = ap (λ (v : EngineValue). v.config) same ∙ c.loop-more.invariant.config;
+      rows = subst (λ (rows : List SeedRun). AllZip (IsRunOfSeed c.args.script.now) (range_with_len first (more + 1)) rows) (sym c.in_ok-push.ensures.items)
+          (longer_rows (IsRunOfSeed c.args.script.now) c.run_seed.result first more (more + 1) c.loop-more.runs.items c.loop-more.invariant.rows run (omega arith));
     }
 
+pub tally_of-requires : goal.tally_of-requires
+tally_of-requires c =
+    let first = c.args.seeds.first + c.min-before.result in
+    let rows = all_length (IsRunOfSeed c.args.script.now) (range_with_len first c.loop-more.more) c.loop-more.runs.items c.loop-more.invariant.rows in
+    let more = length-range_with_len first c.loop-more.more in
+    omega (arith, ap length c.as_slice.ensures.value, rows, more, c.loop-more.auto.more-end, c.min-count.ensures, c.requires.size)
+
 pub returns : goal.returns
-returns c = whole_tally c.args.script.now c.args.seeds c.loop-done.done.last c.loop-done.tally c.loop-done.invariant.within c.loop-done-test.false c.loop-done.invariant.counted
+returns c =
+    let script = c.args.script.now in
+    let seeds = c.args.seeds in
+    let size = c.args.size in
+    let before : c.min-before.result ≡ min (c.args.part * size) (seed_count seeds) = rw (c.from.ensures, c.count.ensures) at c.min-before.ensures in
+    let count : c.loop-more.more ≡ min size (seed_count seeds - c.args.part * size) = omega (arith, before, c.min-count.ensures, c.count-2.ensures, c.loop-more.auto.more-end, c.loop-more-test.false) in
+    let rows = subst₂ (λ (b n : ℕ). AllZip (IsRunOfSeed script) (range_with_len (seeds.first + b) n) c.loop-more.runs.items) before count c.loop-more.invariant.rows in
+    IfOk-then c.tally_of.result _ _ c.tally_of.ensures (λ t is. record { runs = c.loop-more.runs.items; of_seeds = rows; counted = is ∙ ap tally_of c.as_slice.ensures.value })

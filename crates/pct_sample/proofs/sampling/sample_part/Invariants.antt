@@ -1,16 +1,11 @@
-use Rattle.std.proofs.Common.{◌≡◌, ◌-◌, ◌≤◌}
-use Rattle.pct_sample.specs.Samples.{TallyOf}
-use Rattle.pct_sample.specs.SeedRuns.{config_of}
+use Rattle.std.proofs.Common.{◌≡◌, ◌+◌}
+use Rattle.std.specs.List.{AllZip, range_with_len}
+use Rattle.pct_sample.specs.SeedRuns.{IsRunOfSeed, config_of}
 use Rattle.pct_sample.proofs.sampling.sample_part.Given as goal
 
-abbrev pub invariant-loop-done : goal.invariant-loop-done
-invariant-loop-done l = record {
+abbrev pub invariant-loop-more : goal.invariant-loop-more
+invariant-loop-more l = record {
   script : l.engine.script ≡ l.script;
   config : l.engine.config ≡ config_of l.script;
-  counted : TallyOf l.script (record { first = l.seeds.first; last = l.done.last }) l.tally;
-  begun : l.seeds.first ≤ l.done.last;
-  within : l.done.last ≤ l.seeds.last;
+  rows : AllZip (IsRunOfSeed l.script) (range_with_len (l.seeds.first + l.before) l.more) l.runs.items;
 }
-
-abbrev pub decreases-loop-done : goal.decreases-loop-done
-decreases-loop-done l = l.seeds.last - l.done.last

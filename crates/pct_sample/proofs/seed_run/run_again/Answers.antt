@@ -1,4 +1,4 @@
-use Rattle.std.proofs.Common.{[], ap, subst, ◌∙◌}
+use Rattle.std.proofs.Common.{ap, subst, ◌∙◌}
 use Rattle.rand_pcg.specs.Lcg.{Lcg}
 use Rattle.pct_engine.specs.EngineStates.{EngineValue}
 use Rattle.pct_scheduled_run.specs.ScheduledRuns.{IsContinuedBy}
