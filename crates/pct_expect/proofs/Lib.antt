@@ -3,6 +3,7 @@ mod Patterns
 mod RulesRead
 mod LinesRead
 pub mod Failures
+pub mod WordKeys
 pub mod EventLines
 pub mod WordMatches
 pub mod InsertedKeys

@@ -1,12 +1,12 @@
 -- Where a rule of each kind fails.
 use Rattle.pct_names.proofs.Names.{◌+◌, ◌<◌, ◌||◌, arith, ap, Bool, bytes_eq, cases_lt, false, false≢true, inl, inr, le_refl, List, list_any, None, Option, or_cases}
-use Rattle.pct_names.proofs.Names.{or-true, refl, Some, subst, sym, true, ℕ, ◌∙◌, ◌≡◌, ◌≤◌}
+use Rattle.pct_names.proofs.Names.{or-true, Some, subst, sym, true, ℕ, ◌∙◌, ◌≡◌, ◌≤◌}
 use Rattle.pct_model.proofs.Bytes.{bytes_eq-refl, same_bytes}
 use Rattle.pct_expect.specs.declared.rule.Rule.{Rule}
 use Rattle.pct_expect.specs.declared.rule.RuleKind.TheVariants as kind
-use Rattle.pct_expect.specs.Answers.{HasLater, HasLaterInThread, IsAnswer}
+use Rattle.pct_expect.specs.Answers.{HasLater, HasLaterInThread}
 use Rattle.pct_expect.specs.Events.{MatchesAt, thread_at}
-use Rattle.pct_expect.specs.Searches.{IsFailure, answer_with}
+use Rattle.pct_expect.specs.Searches.{IsFailure}
 use Rattle.pct_expect.proofs.Failures.{FoundFrom, all_served, first_of_all, found_all, found_here, found_more, from_one_less, refuted}
 
 -- no event before index k matches the pattern
@@ -135,9 +135,3 @@ thread_ends rule events k None zero more = all_served (MatchesAt rule.first even
 thread_ends rule events k (Some n) zero more =
     let first = subst (λ (i : ℕ). FoundInThread rule events i (Some n)) zero more in
     (refuted (MatchesAt rule.first events) (HasLaterInThread rule.second events) 0 n first, first_of_all (MatchesAt rule.first events) (HasLaterInThread rule.second events) n first)
-
--- ---- the answer
-
-pub answer_of : (events : List (List (List ℕ))) (rule : Rule) (failure : Option ℕ) → IsFailure rule.kind rule events failure → IsAnswer events rule (answer_with rule.line failure)
-answer_of events rule None holds = record { line = refl; verdict = (holds, refl) }
-answer_of events rule (Some n) fails = record { line = refl; verdict = fails }

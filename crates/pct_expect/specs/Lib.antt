@@ -3,6 +3,7 @@ pub mod Answers
 pub mod Events
 pub mod Faults
 pub mod Gives
+pub mod Keys
 pub mod Parts
 pub mod Reading
 pub mod Rules

@@ -1,16 +1,10 @@
 -- What the search for the event at which a rule fails has found. No public clause cites this file.
-use Rattle.std.specs.Prelude.{ℕ, true, false, List, Option, Some, None}
+use Rattle.std.specs.Prelude.{ℕ, List, Option, Some, None}
 use Rattle.pct_expect.specs.declared.rule.Rule.{Rule}
 use Rattle.pct_expect.specs.declared.rule.RuleKind.{RuleKind}
-use Rattle.pct_expect.specs.declared.verdict.Judged.{Judged}
 use Rattle.pct_expect.specs.Answers.{HoldsAs, MissAs}
 
 -- the number that is reported of a rule of a kind, or none if the rule holds
 abbrev pub IsFailure : RuleKind → Rule → List (List (List ℕ)) → Option ℕ → Type 0
 IsFailure kind rule events None = HoldsAs kind rule events
 IsFailure kind rule events (Some n) = (HoldsAs kind rule events → ⊥) × MissAs kind rule events n
-
--- the answer to the rule of a line
-abbrev pub answer_with : ℕ → Option ℕ → Judged
-answer_with n None = record { line = n; holds = true; number = 0 }
-answer_with n (Some number) = record { line = n; holds = false; number = number }

@@ -4,9 +4,9 @@ ghost use Rattle.std.specs.Prelude.{◌≡◌, ◌<◌, ◌^◌, All, IfOk, leng
 ghost use Rattle.pct_expect.specs.declared.rule.RuleKind.TheVariants.{After, Before, Count, Never, Thread};
 ghost use Rattle.pct_expect.specs.Answers.{AreAnswers, IsAnswer};
 ghost use Rattle.pct_expect.specs.Events.{IsWithin, events_in};
-ghost use Rattle.pct_expect.specs.Searches.{IsFailure, answer_with};
+ghost use Rattle.pct_expect.specs.Searches.{IsFailure};
 
-use crate::matching::{matches, part_at, thread_of};
+use crate::matching::{Asked, Events};
 use crate::rule::{Expects, Rule, RuleKind};
 use crate::span::Span;
 use crate::threads::ThreadSet;
@@ -32,80 +32,74 @@ pub fn judge(
     requires few { length lines.now < 2 ^ 32 }
     ensures { IfOk result (AreAnswers (events_in text.now lines.now) expects.now) }
 {
+    let events = Events::of(alloc, text, lines)?;
     let mut verdicts = Vec::new(alloc);
     for rule in expects.as_slice() {
-        verdicts.push(judged(alloc, text, lines, rule)?)?;
+        verdicts.push(judged(alloc, &events, rule)?)?;
     }
     Ok(Sequence::of(verdicts))
 }
 
 // The answer to a rule.
-fn judged(alloc: Global, text: &[u8], lines: &[Span], rule: &Rule) -> Result<Judged, NoMemory>
-    requires within { All (IsWithin text.now) lines.now }
-    requires few { length lines.now < 2 ^ 32 }
-    ensures { IfOk result (IsAnswer (events_in text.now lines.now) rule.now) }
+fn judged(alloc: Global, events: &Events<'_>, rule: &Rule) -> Result<Judged, NoMemory>
+    requires { length events.now < 2 ^ 32 }
+    ensures { IfOk result (IsAnswer events.now rule.now) }
 {
-    Ok(answer(rule.line, failure(alloc, text, lines, rule)?))
-}
-
-// The answer to the rule of a line, with the number that is reported if the rule does not hold.
-fn answer(line: u32, failure: Option<u32>) -> Judged
-    ensures { result ≡ answer_with line failure }
-{
-    match failure {
-        Some(number) => Judged {
-            line,
+    match failure(alloc, events, rule)? {
+        Some(number) => Ok(Judged {
+            line: rule.line,
             holds: false,
             number,
-        },
-        None => Judged {
-            line,
+        }),
+        None => Ok(Judged {
+            line: rule.line,
             holds: true,
             number: 0,
-        },
+        }),
     }
 }
 
 // The number that is reported of a rule, or `None` if it holds.
-fn failure(alloc: Global, text: &[u8], lines: &[Span], rule: &Rule) -> Result<Option<u32>, NoMemory>
-    requires within { All (IsWithin text.now) lines.now }
-    requires few { length lines.now < 2 ^ 32 }
-    ensures { IfOk result (IsFailure rule.now.kind rule.now (events_in text.now lines.now)) }
+fn failure(alloc: Global, events: &Events<'_>, rule: &Rule) -> Result<Option<u32>, NoMemory>
+    requires { length events.now < 2 ^ 32 }
+    ensures { IfOk result (IsFailure rule.now.kind rule.now events.now) }
 {
     match rule.kind {
-        RuleKind::Never => Ok(first_match(text, lines, rule)),
-        RuleKind::Count => Ok(other_count(text, lines, rule)),
-        RuleKind::Before => Ok(first_without_earlier(text, lines, rule)),
-        RuleKind::After => Ok(first_without_later(text, lines, rule)),
-        RuleKind::Thread => first_without_later_in_thread(alloc, text, lines, rule),
+        RuleKind::Never => Ok(first_match(events, rule)),
+        RuleKind::Count => Ok(other_count(events, rule)),
+        RuleKind::Before => Ok(first_without_earlier(events, rule)),
+        RuleKind::After => Ok(first_without_later(events, rule)),
+        RuleKind::Thread => first_without_later_in_thread(alloc, events, rule),
     }
 }
 
+// The searches, one for each kind. Each stays a function of its own in the program, so that its loop keeps its values in registers.
+
 // Of a rule of kind `Never`.
-fn first_match(text: &[u8], lines: &[Span], rule: &Rule) -> Option<u32>
-    requires within { All (IsWithin text.now) lines.now }
-    requires few { length lines.now < 2 ^ 32 }
-    ensures { IsFailure Never rule.now (events_in text.now lines.now) result }
+#[inline(never)]
+fn first_match(events: &Events<'_>, rule: &Rule) -> Option<u32>
+    requires { length events.now < 2 ^ 32 }
+    ensures { IsFailure Never rule.now events.now result }
 {
-    let mut number = 0;
-    for span in lines {
-        number += 1;
-        if matches(rule.first.as_slice(), part_at(text, *span)) {
-            return Some(number);
+    let first = Asked::of(&rule.first);
+    for index in 0..events.len() {
+        if first.is_match(events, index) {
+            return Some(index as u32 + 1);
         }
     }
     None
 }
 
 // Of a rule of kind `Count`.
-fn other_count(text: &[u8], lines: &[Span], rule: &Rule) -> Option<u32>
-    requires within { All (IsWithin text.now) lines.now }
-    requires few { length lines.now < 2 ^ 32 }
-    ensures { IsFailure Count rule.now (events_in text.now lines.now) result }
+#[inline(never)]
+fn other_count(events: &Events<'_>, rule: &Rule) -> Option<u32>
+    requires { length events.now < 2 ^ 32 }
+    ensures { IsFailure Count rule.now events.now result }
 {
+    let first = Asked::of(&rule.first);
     let mut count = 0;
-    for span in lines {
-        if matches(rule.first.as_slice(), part_at(text, *span)) {
+    for index in 0..events.len() {
+        if first.is_match(events, index) {
             count += 1;
         }
     }
@@ -117,19 +111,18 @@ fn other_count(text: &[u8], lines: &[Span], rule: &Rule) -> Option<u32>
 }
 
 // Of a rule of kind `Before`. After the first event that matches the first pattern, the rule cannot fail.
-fn first_without_earlier(text: &[u8], lines: &[Span], rule: &Rule) -> Option<u32>
-    requires within { All (IsWithin text.now) lines.now }
-    requires few { length lines.now < 2 ^ 32 }
-    ensures { IsFailure Before rule.now (events_in text.now lines.now) result }
+#[inline(never)]
+fn first_without_earlier(events: &Events<'_>, rule: &Rule) -> Option<u32>
+    requires { length events.now < 2 ^ 32 }
+    ensures { IsFailure Before rule.now events.now result }
 {
-    let mut event_number = 0;
-    for span in lines {
-        let event = part_at(text, *span);
-        event_number += 1;
-        if matches(rule.second.as_slice(), event) {
-            return Some(event_number);
+    let first = Asked::of(&rule.first);
+    let second = Asked::of(&rule.second);
+    for index in 0..events.len() {
+        if second.is_match(events, index) {
+            return Some(index as u32 + 1);
         }
-        if matches(rule.first.as_slice(), event) {
+        if first.is_match(events, index) {
             return None;
         }
     }
@@ -137,18 +130,19 @@ fn first_without_earlier(text: &[u8], lines: &[Span], rule: &Rule) -> Option<u32
 }
 
 // Of a rule of kind `After`. Before the last event that matches the second pattern, the rule cannot fail.
-fn first_without_later(text: &[u8], lines: &[Span], rule: &Rule) -> Option<u32>
-    requires within { All (IsWithin text.now) lines.now }
-    requires few { length lines.now < 2 ^ 32 }
-    ensures { IsFailure After rule.now (events_in text.now lines.now) result }
+#[inline(never)]
+fn first_without_later(events: &Events<'_>, rule: &Rule) -> Option<u32>
+    requires { length events.now < 2 ^ 32 }
+    ensures { IsFailure After rule.now events.now result }
 {
+    let first = Asked::of(&rule.first);
+    let second = Asked::of(&rule.second);
     let mut found = None;
-    for index in (0..lines.len()).rev() {
-        let line = part_at(text, lines[index]);
-        if matches(rule.first.as_slice(), line) {
+    for index in (0..events.len()).rev() {
+        if first.is_match(events, index) {
             found = Some(index as u32 + 1);
         }
-        if matches(rule.second.as_slice(), line) {
+        if second.is_match(events, index) {
             return found;
         }
     }
@@ -156,25 +150,25 @@ fn first_without_later(text: &[u8], lines: &[Span], rule: &Rule) -> Option<u32>
 }
 
 // Of a rule of kind `Thread`.
+#[inline(never)]
 fn first_without_later_in_thread(
     alloc: Global,
-    text: &[u8],
-    lines: &[Span],
+    events: &Events<'_>,
     rule: &Rule,
 ) -> Result<Option<u32>, NoMemory>
-    requires within { All (IsWithin text.now) lines.now }
-    requires few { length lines.now < 2 ^ 32 }
-    ensures { IfOk result (IsFailure Thread rule.now (events_in text.now lines.now)) }
+    requires { length events.now < 2 ^ 32 }
+    ensures { IfOk result (IsFailure Thread rule.now events.now) }
 {
+    let first = Asked::of(&rule.first);
+    let second = Asked::of(&rule.second);
     let mut found = None;
     let mut followed = ThreadSet::new(alloc);
-    for index in (0..lines.len()).rev() {
-        let line = part_at(text, lines[index]);
-        if matches(rule.first.as_slice(), line) && !followed.contains(thread_of(line)) {
+    for index in (0..events.len()).rev() {
+        if first.is_match(events, index) && !followed.contains(events.thread(index)) {
             found = Some(index as u32 + 1);
         }
-        if matches(rule.second.as_slice(), line) {
-            followed.insert(thread_of(line))?;
+        if second.is_match(events, index) {
+            followed.insert(events.thread(index))?;
         }
     }
     Ok(found)

@@ -3,7 +3,7 @@
 use pct_model::Sequence;
 
 /// What a rule asks of the events.
-#[derive(Clone, Copy, Debug, PartialEq, Eq)]
+#[derive(Clone, Copy)]
 pub enum RuleKind {
     /// No event matches the first pattern.
     Never,
@@ -25,7 +25,7 @@ pub type Pattern = Sequence<Word>;
 pub type Expects = Sequence<Rule>;
 
 /// A rule.
-#[derive(Debug, Drop)]
+#[derive(Drop)]
 pub struct Rule {
     /// The number of its line, counted from 1.
     pub line: u32,

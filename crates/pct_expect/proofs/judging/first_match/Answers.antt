@@ -1,35 +1,27 @@
-use Rattle.pct_names.proofs.Names.{◌+◌, arith, ◌≡◌}
-use Rattle.pct_expect.specs.Events.{MatchesAt, events_in}
-use Rattle.pct_expect.proofs.EventLines.{inside_lines, matched_by, unmatched_by}
+use Rattle.pct_names.proofs.Names.{arith, refl}
+use Rattle.pct_expect.specs.Events.{MatchesAt}
+use Rattle.pct_expect.proofs.EventLines.{inside_events, matched_by, unmatched_by}
 use Rattle.pct_expect.proofs.Failures.{to_one_more}
 use Rattle.pct_expect.proofs.RuleFailures.{never_fails, never_holds}
 use Rattle.pct_expect.proofs.judging.first_match.Goals as goal
 
-pub returns-then-matches : goal.returns-then-matches
-returns-then-matches c =
-    let text = c.args.text.now in
-    let lines = c.args.lines.now in
+pub returns-then-is_match : goal.returns-then-is_match
+returns-then-is_match c =
+    let events = c.args.events.now in
     let rule = c.args.rule.now in
-    let k = c.loop-span.span-index in
-    let number : c.loop-span.number + 1 ≡ k + 1 = omega (arith, c.loop-span.invariant.number) in
-    never_fails rule (events_in text lines) k (c.loop-span.number + 1) c.loop-span.invariant.none number
-    (matched_by rule.first _ text _ lines k _ c.loop-span-test.true c.as_slice.ensures c.part_at.ensures c.if-matches.ensures)
+    let k = c.loop-index.index in
+    never_fails rule events k _ c.loop-index.invariant refl (matched_by rule.first _ events k c.of-first.ensures c.if-is_match.ensures)
 
-pub loop-span-preserved : goal.loop-span-preserved
-loop-span-preserved c =
-    let text = c.args.text.now in
-    let lines = c.args.lines.now in
+pub loop-index-preserved : goal.loop-index-preserved
+loop-index-preserved c =
+    let events = c.args.events.now in
     let rule = c.args.rule.now in
-    let k = c.loop-span.span-index in
-    record {
-      number = omega (arith, c.loop-span.invariant.number);
-      none = to_one_more (λ i. MatchesAt rule.first (events_in text lines) i → ⊥) k c.loop-span.invariant.none
-          (unmatched_by rule.first _ text _ lines k _ c.loop-span-test.true c.as_slice.ensures c.part_at.ensures c.if-matches.ensures);
-    }
+    let k = c.loop-index.index in
+    to_one_more (λ i. MatchesAt rule.first events i → ⊥) k c.loop-index.invariant (unmatched_by rule.first _ events k c.of-first.ensures c.if-is_match.ensures)
 
 pub returns : goal.returns
 returns c =
-    let text = c.args.text.now in
-    let lines = c.args.lines.now in
+    let events = c.args.events.now in
     let rule = c.args.rule.now in
-    never_holds rule (events_in text lines) c.loop-span.span-index c.loop-span.invariant.none (λ i m. let inside = inside_lines rule.first text lines i m in omega (arith, inside, c.loop-span-test.false))
+    never_holds rule events c.loop-index.index c.loop-index.invariant
+    (λ i m. let inside = inside_events rule.first events i m in omega (arith, inside, c.len-index-end.ensures, c.loop-index-test.false))

@@ -1,5 +1,5 @@
 use Rattle.std.proofs.lemmas.List.{take_more}
-use Rattle.pct_names.proofs.Names.{◌++◌, ◌+◌, ◌<◌, [], ap, AllZip, get_or, length, List, subst, sym, take, ◌∙◌, ◌∷◌, ◌≡◌}
+use Rattle.pct_names.proofs.Names.{◌++◌, ◌+◌, ◌<◌, [], ap, AllZip, get_or, length, List, subst, sym, take, ℕ, ◌∙◌, ◌∷◌, ◌≡◌}
 use Rattle.pct_expect.specs.declared.rule.Rule.{Rule}
 use Rattle.pct_expect.specs.declared.verdict.Judged.{Judged}
 use Rattle.pct_expect.specs.Answers.{IsAnswer}
@@ -17,6 +17,7 @@ loop-rule-preserved c =
     let inside : i < length rules = subst (λ (xs : List Rule). i < length xs) c.as_slice-rule-items.ensures c.loop-rule-test.true in
     let is : rule ≡ get_or rules i rule = subst (λ (xs : List Rule). rule ≡ get_or xs i rule) c.as_slice-rule-items.ensures c.rule-item.is in
     let grown : take (i + 1) rules ≡ take i rules ++ rule ∷ [] = take_more rules i rule inside ∙ ap (λ (r : Rule). take i rules ++ r ∷ []) (sym is) in
-    let more = one_more_pair (IsAnswer events) (take i rules) answers rule c.in_ok-judged.field-0 c.loop-rule.invariant c.in_ok-judged.ensures in
+    let here = subst (λ (es : List (List (List ℕ))). IsAnswer es rule c.in_ok-judged.field-0) c.in_ok-events.ensures c.in_ok-judged.ensures in
+    let more = one_more_pair (IsAnswer events) (take i rules) answers rule c.in_ok-judged.field-0 c.loop-rule.invariant here in
     subst (λ (xs : List Rule). AllZip (IsAnswer events) xs c.push.new.self.items) (sym grown)
-    (subst (λ (ys : List Judged). AllZip (IsAnswer events) (take i rules ++ rule ∷ []) ys) (sym c.in_ok-push.ensures.items) more)
+    (subst (λ (ys : List Judged). AllZip (IsAnswer events) (take i rules ++ rule ∷ []) ys) (sym {A = List Judged} c.in_ok-push.ensures.items) more)
