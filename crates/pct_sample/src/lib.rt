@@ -7,4 +7,4 @@ mod seed_run;
 
 pub use law::{seeds_are_options, sums_are_tallies, tallies_are_one};
 pub use sampling::sample;
-pub use seed_run::{run_again, seeded_run};
+pub use seed_run::run_again;

@@ -1,8 +1,8 @@
 //! The run of a script under a seed.
 
-ghost use Rattle.std.specs.Prelude.{◌≡◌, ◌*◌, ◌≤◌, length, count_by, IfOk, IsTrue};
+ghost use Rattle.std.specs.Prelude.{◌≡◌, ◌*◌, ◌≤◌, length, count_by, IfOk};
 ghost use Rattle.pct_model.specs.declared.limits.TheConstants.{MAX_BUDGET};
-ghost use Rattle.pct_model.specs.Run.{Run, is_config};
+ghost use Rattle.pct_model.specs.Run.{Run};
 ghost use Rattle.pct_engine.specs.EngineStates.{IsRunOf};
 ghost use Rattle.pct_sample.specs.SeededRuns.{IsSeededRun};
 ghost use Rattle.pct_sample.specs.SeedRuns.{IsRunOfSeed, IsSummaryOf, config_of, is_canceled, is_joined};
@@ -49,23 +49,6 @@ pub(crate) fn run_seed(engine: &mut Engine, seed: u64) -> SeedRun
 {
     run_again(engine, seed);
     summary_of(engine, seed)
-}
-
-/// Makes the run that one worker makes of a script under a seed, with this configuration. The script is copied.
-///
-/// `NoMemory` is returned if the copy or the run does not fit into memory.
-pub fn seeded_run(
-    alloc: Global,
-    script: &Script,
-    config: Config,
-    seed: u64,
-) -> Result<Engine, NoMemory>
-    requires { IsTrue (is_config config) }
-    ensures { IfOk result (IsSeededRun script.now config seed) }
-{
-    let mut engine = Engine::open(alloc, copy_script(alloc, script)?, config)?;
-    run_again(&mut engine, seed);
-    Ok(engine)
 }
 
 // What is counted of the run of an engine, which is that of a seed.
