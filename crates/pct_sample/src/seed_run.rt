@@ -9,7 +9,7 @@ ghost use Rattle.pct_sample.specs.SeedRuns.{IsRunOfSeed, IsSummaryOf, config_of,
 
 use pct_engine::Engine;
 use pct_io::NoMemory;
-use pct_model::{Config, Event, PTHREAD_CANCELED, Script, Verdict, What, format_of};
+use pct_model::{Config, Event, PTHREAD_CANCELED, Script, What, format_of};
 use pct_scheduled_run::{continue_run, stream_of};
 use pct_script::copy_script;
 use pct_tallies::SeedRun;
