@@ -7,3 +7,4 @@ mod MoreRuns
 mod CountedLists
 pub mod OneSurvey
 mod CollectedRuns
+mod JudgedEngines

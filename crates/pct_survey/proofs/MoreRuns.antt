@@ -70,6 +70,10 @@ range-append first (suc n) m =
     ap (range_with_len first) one
     ∙ ap (λ (xs : List ℕ). first ∷ xs) (range-append (first + 1) n m ∙ ap (λ (a : ℕ). range_with_len (first + 1) n ++ range_with_len a m) next)
 
+-- one number more
+pub range-more : (first n next : ℕ) → next ≡ first + n → range_with_len first n ++ next ∷ [] ≡ range_with_len first (n + 1)
+range-more first n next is = ap (λ (a : ℕ). range_with_len first n ++ a ∷ []) is ∙ sym (range-append first n 1)
+
 module _ (script : Script) (config : Config) (rules : List Rule) where
   pub no_seeds : (survey : Survey) → survey ≡ survey_of rules [] → IsSurveyOf script config rules 0 survey
   no_seeds survey is = record { runs = []; of_seeds = tt; counted = is }

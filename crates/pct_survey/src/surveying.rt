@@ -12,7 +12,7 @@ use crate::judging::{JudgedRun, Subject, judged_part};
 use pct_io::NoMemory;
 use rayon::current_num_threads;
 use rayon::prelude::*;
-use std::alloc::{AllocError, Global};
+use std::alloc::Global;
 use std::thread::Threads;
 
 /// The most seeds of a survey.
@@ -21,9 +21,10 @@ pub const MAX_SURVEYED: u32 = 100_000;
 // The runs that are kept at a time.
 pub(crate) const CHUNK: u32 = 10_000;
 
-// The parts of these for each processor, and the most processors for which there are parts.
+// The parts of these for each processor.
 const PARTS: usize = 8;
 
+// The most processors for which there are parts.
 const MOST_PROCESSORS: usize = 32;
 
 /// What is counted of the runs of a script under the seeds 1 to `count`, at most 100,000: for each rule the runs of which it holds and those of
@@ -79,21 +80,28 @@ fn judged_runs<R: Threads + Sync>(
             { judged_part(alloc, subject, part) },
         )
         .collect::<Result<Vec<Vec<JudgedRun>>, NoMemory>>(rt, alloc)??;
-    Ok(in_one(alloc, runs)?)
+    in_one(alloc, runs)
 }
 
 // So many seeds after `done`.
-fn seeds_after(alloc: Global, done: u32, more: u32) -> Result<Vec<u64>, AllocError>
+fn seeds_after(alloc: Global, done: u32, more: u32) -> Result<Vec<u64>, NoMemory>
     requires { done + more ≤ MAX_SURVEYED }
     ensures { IfOk result (λ seeds. seeds.items ≡ range_with_len (done + 1) more) }
 {
-    let first = u64::from(done) + 1;
-    (first..first + u64::from(more)).collect(alloc)
+    let mut seeds = Vec::new(alloc);
+    for before in 0..more {
+        seeds.push((done + before) as u64 + 1)?;
+    }
+    Ok(seeds)
 }
 
 // The runs of all parts, in order.
-fn in_one(alloc: Global, parts: Vec<Vec<JudgedRun>>) -> Result<Vec<JudgedRun>, AllocError>
+fn in_one(alloc: Global, parts: Vec<Vec<JudgedRun>>) -> Result<Vec<JudgedRun>, NoMemory>
     ensures { IfOk result (λ runs. runs.items ≡ flat_map (λ part. part.items) parts.items) }
 {
-    parts.into_iter().flatten().collect(alloc)
+    let mut runs = Vec::new(alloc);
+    for mut part in parts {
+        runs.append(&mut part)?;
+    }
+    Ok(runs)
 }
