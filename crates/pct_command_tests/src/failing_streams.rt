@@ -2,7 +2,9 @@
 
 use pct_command::command;
 use pct_io::{MemSink, MemSource, NoGate};
+use std::alloc::Global;
 use std::test::Fail;
+use std::thread::Threads;
 
 const SCRIPT: &[u8] = b"fn main x\nreturn 0\nend\n";
 
@@ -48,5 +50,51 @@ fn failed_reads_and_writes_decide_the_status(rt: HostRuntime) -> Result<(), Fail
         assert!(rt; sink.written() == text, "row {row_number}");
         assert!(rt; source.left().len() == left, "row {row_number}");
     }
+    Ok(())
+}
+
+// `run` over a source and a sink that take a byte a call, of which a read and a write fail: the status, and what is written.
+fn run<R: Threads + Sync>(
+    rt: &R,
+    alloc: Global,
+    room: u32,
+    [read, write]: [u64; 2],
+) -> Result<(u8, Vec<u8>), Fail> {
+    let mut words = Vec::new(alloc);
+    words.push(String::from_str(alloc, "run")?)?;
+    let mut source = MemSource::new(alloc, SCRIPT, 1, &[read])?;
+    let mut sink = MemSink::new(alloc, room, 1, &[write])?;
+    let status = command(rt, alloc, &words, &mut source, &mut sink, &NoGate);
+    Ok((status.code(), sink.written().to_vec(alloc)?))
+}
+
+#[test]
+fn each_read_of_a_byte_fails(rt: HostRuntime) -> Result<(), Fail> {
+    // The script has 23 bytes, and the 24th read finds its end.
+    for read in 1..25_u64 {
+        let (code, text) = run(&rt, rt.alloc(), 1000, [read, 0])?;
+        assert!(rt; code == 9 && text.is_empty(), "read {read}");
+    }
+    let (code, text) = run(&rt, rt.alloc(), 1000, [25, 0])?;
+    assert!(rt; code == 0 && text.as_slice() == REPORT, "no read");
+    Ok(())
+}
+
+#[test]
+fn each_write_of_a_byte_fails(rt: HostRuntime) -> Result<(), Fail> {
+    // The report has 101 bytes.
+    for before in 0..101_usize {
+        let write = before as u64 + 1;
+        let (code, text) = run(&rt, rt.alloc(), 1000, [0, write])?;
+        assert!(rt;
+            code == 10 && text.as_slice() == &REPORT[..before],
+            "write {write}"
+        );
+    }
+    let (code, text) = run(&rt, rt.alloc(), 101, [0, 102])?;
+    assert!(rt; code == 0 && text.as_slice() == REPORT, "no write");
+    // One byte less fits.
+    let (code, text) = run(&rt, rt.alloc(), 100, [0, 0])?;
+    assert!(rt; code == 10 && text.as_slice() == &REPORT[..100], "room 100");
     Ok(())
 }
