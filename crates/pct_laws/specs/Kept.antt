@@ -48,7 +48,9 @@ use Rattle.pct_model.specs.ThreadCalls.{join_point}
 use Rattle.pct_model.specs.ThreadNumbers.{NumbersThreads}
 use Rattle.pct_model.specs.ThreadSlots.{is_ended_status}
 use Rattle.pct_laws.specs.ThreadSummary.{ThreadSummary, summary_of}
-use Rattle.pct_laws.specs.WaitStages.{WaitStage, NoWait, InWait, Expired, Leaving, Left, wait_stage}
+use Rattle.pct_laws.specs.declared.stage.WaitStage.{WaitStage}
+use Rattle.pct_laws.specs.declared.stage.WaitStage.TheVariants.{NoWait, InWait, Expired, Leaving, Left}
+use Rattle.pct_laws.specs.WaitStages.{wait_stage}
 use Rattle.pct_model.specs.World.{Thread, Process, World, made_process, thread_with, made_thread, body_of}
 
 -- ---- handlers

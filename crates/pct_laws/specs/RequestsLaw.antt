@@ -14,7 +14,9 @@ use Rattle.pct_model.specs.CondCalls.{cond_wait_point, cond_timedwait_point}
 use Rattle.pct_model.specs.ForkCalls.{waitpid_point}
 use Rattle.pct_model.specs.SemCalls.{sem_wait_point, sem_timedwait_point}
 use Rattle.pct_model.specs.ThreadCalls.{join_point}
-use Rattle.pct_laws.specs.WaitStages.{WaitStage, InWait, ToReturn, Expired, ToTimeOut, ToEnd, wait_stage}
+use Rattle.pct_laws.specs.declared.stage.WaitStage.{WaitStage}
+use Rattle.pct_laws.specs.declared.stage.WaitStage.TheVariants.{InWait, ToReturn, Expired, ToTimeOut, ToEnd}
+use Rattle.pct_laws.specs.WaitStages.{wait_stage}
 use Rattle.pct_laws.specs.NewestEvents.{newest_is, reports_call}
 
 -- ---- stages of condition waits

@@ -7,28 +7,9 @@ use Rattle.pct_model.specs.declared.event.What.{What}
 use Rattle.pct_model.specs.declared.event.What.TheVariants as what
 use Rattle.pct_model.specs.declared.numbers.TheConstants.{ETIMEDOUT}
 use Rattle.pct_model.specs.CondCalls.{cond_wait_point, cond_timedwait_point}
+use Rattle.pct_laws.specs.declared.stage.WaitStage.{WaitStage}
+use Rattle.pct_laws.specs.declared.stage.WaitStage.TheVariants.{NoWait, AtCall, InWait, ToReturn, Expired, ToTimeOut, Leaving, Left, ToEnd}
 use Rattle.pct_laws.specs.KnownThreads.{is_own}
-
--- how far the newest condition wait of a thread is
-pub data WaitStage : Type 0 where
-  -- no wait is unfinished
-  NoWait : WaitStage
-  -- pthread_cond_wait was called or, with the flag, pthread_cond_timedwait
-  AtCall : Bool → WaitStage
-  -- it released this mutex, and has neither acquired it again nor acted upon a request, and its time has not expired
-  InWait : Bool → ℕ → WaitStage
-  -- it acquired the mutex again, and returns next
-  ToReturn : Bool → WaitStage
-  -- its time expired, on this condition variable, with this mutex
-  Expired : ℕ → ℕ → WaitStage
-  -- and it acquired the mutex again, and returns ETIMEDOUT next
-  ToTimeOut : WaitStage
-  -- a request was acted upon: the wait of this flag, on this condition variable, with this mutex, is left, and may hand on a signal
-  Leaving : Bool → ℕ → ℕ → WaitStage
-  -- it is left, and hands on no signal any more
-  Left : Bool → ℕ → ℕ → WaitStage
-  -- it acquired the mutex again, and begins to end next
-  ToEnd : ℕ → ℕ → WaitStage
 
 -- the stage at the call of a cancellation point
 abbrev pub stage_at_call : ℕ → WaitStage

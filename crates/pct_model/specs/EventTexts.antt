@@ -1,4 +1,5 @@
--- The words of each event, without its process and thread: a word, and the fields of the event.
+-- The words of each event, without its process and thread: a word, and the fields of the event. They are given by names alone, without
+-- a script.
 use Rattle.std.specs.Prelude.{ℕ, Bool, true, false, List, [], ◌∷◌, map, decimal}
 use Rattle.pct_model.specs.declared.script.Script.{Script}
 use Rattle.pct_model.specs.declared.event.Caller.{Caller}
@@ -41,69 +42,89 @@ line_kind_of_caller caller.SemTimedWait = line_kind.SemTimedWait
 abbrev pub caller_name : Caller → List ℕ
 caller_name call = (syntax_of (line_kind_of_caller call)).keyword
 
--- the name of a function
+-- ---- names
+
+-- the names that events refer to by their indexes
+pub record EventNames : Type 0 where
+  pub functions : List (List ℕ)
+  pub mutexes : List (List ℕ)
+  pub conds : List (List ℕ)
+  pub sems : List (List ℕ)
+  pub onces : List (List ℕ)
+
+-- the names of a script
+abbrev pub event_names : Script → EventNames
+event_names script = record {
+  functions = names_of script.funcs;
+  mutexes = script.mutexes;
+  conds = script.conds;
+  sems = map (λ d. d.name) script.sems;
+  onces = script.onces;
+}
+
+-- the name of a function of a script
 abbrev pub func_name : Script → ℕ → List ℕ
 func_name script f = name_at (names_of script.funcs) f
 
--- the name of a mutex
+-- the name of a mutex of a script
 abbrev pub mutex_name : Script → ℕ → List ℕ
 mutex_name script m = name_at script.mutexes m
 
--- the name of a condition variable
+-- the name of a condition variable of a script
 abbrev pub cond_name : Script → ℕ → List ℕ
 cond_name script c = name_at script.conds c
 
--- the name of a semaphore
+-- the name of a semaphore of a script
 abbrev pub sem_name : Script → ℕ → List ℕ
 sem_name script s = name_at (map (λ d. d.name) script.sems) s
 
--- the name of a once control
+-- the name of a once control of a script
 abbrev pub once_name : Script → ℕ → List ℕ
 once_name script o = name_at script.onces o
 
 -- ---- the table
 
 -- the words of each event
-unfoldable pub event_words : Script → What → List (List ℕ)
-event_words script (what.Emit v) = word keyword.Emit ∷ decimal v ∷ []
-event_words script (what.Created id detached) = word keyword.Create ∷ decimal id ∷ either keyword.Detached keyword.Joinable detached ∷ []
-event_words script (what.Answer call n) = word keyword.Answer ∷ caller_name call ∷ decimal n ∷ []
-event_words script (what.Pushed f a) = word keyword.Push ∷ func_name script f ∷ decimal a ∷ []
-event_words script (what.Popped f a run) = word keyword.Pop ∷ func_name script f ∷ decimal a ∷ either keyword.Run keyword.Drop run ∷ []
-event_words script (what.Request id) = word keyword.Request ∷ decimal id ∷ []
-event_words script (what.Detached id) = word keyword.Detach ∷ decimal id ∷ []
-event_words script (what.StateSet enable) = word keyword.State ∷ either keyword.Enable keyword.Disable enable ∷ []
-event_words script (what.ModeSet asynchronous) = word keyword.Type ∷ either keyword.Asynchronous keyword.Deferred asynchronous ∷ []
-event_words script (what.Called point) = word keyword.Call ∷ point_name point ∷ []
-event_words script (what.Done point) = word keyword.Done ∷ point_name point ∷ []
-event_words script (what.Joined id v) = word keyword.Joined ∷ decimal id ∷ decimal v ∷ []
-event_words script (what.EndingExit v) = word keyword.Ending ∷ word keyword.Exit ∷ decimal v ∷ []
-event_words script what.EndingCanceled = word keyword.Ending ∷ word keyword.Canceled ∷ []
-event_words script (what.EndingInWait c m) = word keyword.Ending ∷ word keyword.Canceled ∷ cond_name script c ∷ mutex_name script m ∷ []
-event_words script (what.HandlerRun f a) = word keyword.Handler ∷ func_name script f ∷ decimal a ∷ []
-event_words script (what.PassBegun n) = word keyword.Pass ∷ decimal n ∷ []
-event_words script (what.DtorRun pass key f v) = word keyword.Dtor ∷ decimal pass ∷ decimal key ∷ func_name script f ∷ decimal v ∷ []
-event_words script (what.Leftover n) = word keyword.Leftover ∷ decimal n ∷ []
-event_words script (what.EndedWith v) = word keyword.Ended ∷ decimal v ∷ []
-event_words script (what.KeyMade k) = word keyword.Key ∷ decimal k ∷ []
-event_words script (what.KeyGone k) = word keyword.KeyDelete ∷ decimal k ∷ []
-event_words script (what.Acquired m) = word keyword.Acquire ∷ mutex_name script m ∷ []
-event_words script (what.Released m) = word keyword.Release ∷ mutex_name script m ∷ []
-event_words script (what.Signalled c id) = word keyword.Signal ∷ cond_name script c ∷ decimal id ∷ []
-event_words script (what.BroadcastTo c n) = word keyword.Broadcast ∷ cond_name script c ∷ decimal n ∷ []
-event_words script (what.WaitCanceled c) = word keyword.CancelWait ∷ cond_name script c ∷ []
-event_words script (what.WaitExpired c) = word keyword.Expire ∷ cond_name script c ∷ []
-event_words script (what.HandedOn c id) = word keyword.HandOn ∷ cond_name script c ∷ decimal id ∷ []
-event_words script (what.Taken s) = word keyword.Take ∷ sem_name script s ∷ []
-event_words script (what.Posted s) = word keyword.Post ∷ sem_name script s ∷ []
-event_words script (what.OnceCalled o) = word keyword.Once ∷ once_name script o ∷ word keyword.Call ∷ []
-event_words script (what.OnceDone o) = word keyword.Once ∷ once_name script o ∷ word keyword.Done ∷ []
-event_words script (what.Forked pid) = word keyword.Fork ∷ decimal pid ∷ []
-event_words script (what.PrepareRun f) = word keyword.Prepare ∷ func_name script f ∷ []
-event_words script (what.ParentRun f) = word keyword.Parent ∷ func_name script f ∷ []
-event_words script (what.ChildRun f) = word keyword.Child ∷ func_name script f ∷ []
-event_words script (what.ExitBegun v) = word keyword.Exit ∷ decimal v ∷ []
-event_words script (what.ExitRun f) = word keyword.AtExit ∷ func_name script f ∷ []
-event_words script (what.ProcessEnded n) = word keyword.ProcessEnd ∷ decimal n ∷ []
-event_words script (what.Reaped pid n) = word keyword.Reap ∷ decimal pid ∷ decimal n ∷ []
-event_words script (what.Stopped why) = stop_words why
+unfoldable pub event_words : EventNames → What → List (List ℕ)
+event_words names (what.Emit v) = word keyword.Emit ∷ decimal v ∷ []
+event_words names (what.Created id detached) = word keyword.Create ∷ decimal id ∷ either keyword.Detached keyword.Joinable detached ∷ []
+event_words names (what.Answer call n) = word keyword.Answer ∷ caller_name call ∷ decimal n ∷ []
+event_words names (what.Pushed f a) = word keyword.Push ∷ name_at names.functions f ∷ decimal a ∷ []
+event_words names (what.Popped f a run) = word keyword.Pop ∷ name_at names.functions f ∷ decimal a ∷ either keyword.Run keyword.Drop run ∷ []
+event_words names (what.Request id) = word keyword.Request ∷ decimal id ∷ []
+event_words names (what.Detached id) = word keyword.Detach ∷ decimal id ∷ []
+event_words names (what.StateSet enable) = word keyword.State ∷ either keyword.Enable keyword.Disable enable ∷ []
+event_words names (what.ModeSet asynchronous) = word keyword.Type ∷ either keyword.Asynchronous keyword.Deferred asynchronous ∷ []
+event_words names (what.Called point) = word keyword.Call ∷ point_name point ∷ []
+event_words names (what.Done point) = word keyword.Done ∷ point_name point ∷ []
+event_words names (what.Joined id v) = word keyword.Joined ∷ decimal id ∷ decimal v ∷ []
+event_words names (what.EndingExit v) = word keyword.Ending ∷ word keyword.Exit ∷ decimal v ∷ []
+event_words names what.EndingCanceled = word keyword.Ending ∷ word keyword.Canceled ∷ []
+event_words names (what.EndingInWait c m) = word keyword.Ending ∷ word keyword.Canceled ∷ name_at names.conds c ∷ name_at names.mutexes m ∷ []
+event_words names (what.HandlerRun f a) = word keyword.Handler ∷ name_at names.functions f ∷ decimal a ∷ []
+event_words names (what.PassBegun n) = word keyword.Pass ∷ decimal n ∷ []
+event_words names (what.DtorRun pass key f v) = word keyword.Dtor ∷ decimal pass ∷ decimal key ∷ name_at names.functions f ∷ decimal v ∷ []
+event_words names (what.Leftover n) = word keyword.Leftover ∷ decimal n ∷ []
+event_words names (what.EndedWith v) = word keyword.Ended ∷ decimal v ∷ []
+event_words names (what.KeyMade k) = word keyword.Key ∷ decimal k ∷ []
+event_words names (what.KeyGone k) = word keyword.KeyDelete ∷ decimal k ∷ []
+event_words names (what.Acquired m) = word keyword.Acquire ∷ name_at names.mutexes m ∷ []
+event_words names (what.Released m) = word keyword.Release ∷ name_at names.mutexes m ∷ []
+event_words names (what.Signalled c id) = word keyword.Signal ∷ name_at names.conds c ∷ decimal id ∷ []
+event_words names (what.BroadcastTo c n) = word keyword.Broadcast ∷ name_at names.conds c ∷ decimal n ∷ []
+event_words names (what.WaitCanceled c) = word keyword.CancelWait ∷ name_at names.conds c ∷ []
+event_words names (what.WaitExpired c) = word keyword.Expire ∷ name_at names.conds c ∷ []
+event_words names (what.HandedOn c id) = word keyword.HandOn ∷ name_at names.conds c ∷ decimal id ∷ []
+event_words names (what.Taken s) = word keyword.Take ∷ name_at names.sems s ∷ []
+event_words names (what.Posted s) = word keyword.Post ∷ name_at names.sems s ∷ []
+event_words names (what.OnceCalled o) = word keyword.Once ∷ name_at names.onces o ∷ word keyword.Call ∷ []
+event_words names (what.OnceDone o) = word keyword.Once ∷ name_at names.onces o ∷ word keyword.Done ∷ []
+event_words names (what.Forked pid) = word keyword.Fork ∷ decimal pid ∷ []
+event_words names (what.PrepareRun f) = word keyword.Prepare ∷ name_at names.functions f ∷ []
+event_words names (what.ParentRun f) = word keyword.Parent ∷ name_at names.functions f ∷ []
+event_words names (what.ChildRun f) = word keyword.Child ∷ name_at names.functions f ∷ []
+event_words names (what.ExitBegun v) = word keyword.Exit ∷ decimal v ∷ []
+event_words names (what.ExitRun f) = word keyword.AtExit ∷ name_at names.functions f ∷ []
+event_words names (what.ProcessEnded n) = word keyword.ProcessEnd ∷ decimal n ∷ []
+event_words names (what.Reaped pid n) = word keyword.Reap ∷ decimal pid ∷ decimal n ∷ []
+event_words names (what.Stopped why) = stop_words why

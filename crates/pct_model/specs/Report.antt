@@ -13,7 +13,7 @@ use Rattle.pct_model.specs.Formats.{format_number}
 use Rattle.pct_model.specs.Keywords.{keyword_text, text_of}
 use Rattle.pct_model.specs.Run.{Run, run, verdict_of}
 use Rattle.pct_model.specs.StopTexts.{stop_words}
-use Rattle.pct_model.specs.EventTexts.{event_words}
+use Rattle.pct_model.specs.EventTexts.{event_names, event_words}
 
 -- ---- events
 
@@ -23,7 +23,7 @@ thread_text pid tid = decimal pid ++ 46 ∷ decimal tid
 
 -- the line of an event
 unfoldable pub event_line : Script → Event → List (List ℕ)
-event_line script e = thread_text e.pid e.tid ∷ event_words script e.what
+event_line script e = thread_text e.pid e.tid ∷ event_words (event_names script) e.what
 
 -- ---- schedules
 

@@ -180,7 +180,7 @@ pub use Rattle.pct_model.specs.Contents.{Contents, item, names_of_kind, variable
 unfoldable pub use Rattle.pct_model.specs.Contents.{resolve, resolve_all, resolve_name}
 pub use Rattle.pct_model.specs.Demo.{IsCountedRun, emitted, summary_of}
 unfoldable pub use Rattle.pct_model.specs.Demo.{demo_number, summary_lines, total_of}
-pub use Rattle.pct_model.specs.EventTexts.{caller_name, either, func_name, line_kind_of_caller}
+pub use Rattle.pct_model.specs.EventTexts.{EventNames, caller_name, either, event_names, func_name, line_kind_of_caller}
 unfoldable pub use Rattle.pct_model.specs.EventTexts.{event_words}
 pub use Rattle.pct_model.specs.Formats.{config_for, format_number, has_choice, has_timeouts, is_timed}
 unfoldable pub use Rattle.pct_model.specs.Formats.{format_of}

@@ -1,7 +1,7 @@
 //! The table of events: the words of each.
 
 ghost use Rattle.std.specs.Prelude.{◌≡◌};
-ghost use Rattle.pct_model.specs.EventTexts.{event_words};
+ghost use Rattle.pct_model.specs.EventTexts.{event_names, event_words};
 ghost use Rattle.pct_report.specs.EventFields.{words_of};
 
 use crate::fields::Fields::{self, Four, One, Three, Two};
@@ -13,7 +13,7 @@ use pct_model::{Keyword, Script, What};
 #[inline(always)]
 #[tactic(auto, unfolding(pct_model::specs::EventTexts::event_words, pct_model::specs::StopTexts::stop_words))]
 pub fn fields_of_event(script: &Script, what: What) -> Fields<'_>
-    ensures { words_of result ≡ event_words script.now what }
+    ensures { words_of result ≡ event_words (event_names script.now) what }
 {
     match what {
         What::Emit(value) => One(Keyword::Emit, Number(value)),

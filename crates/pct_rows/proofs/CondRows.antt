@@ -8,7 +8,8 @@ use Rattle.pct_laws.specs.Each.{each}
 use Rattle.pct_rows.proofs.Refusals.{refuses}
 use Rattle.pct_laws.specs.CondLaw.{allows}
 use Rattle.pct_laws.specs.Kept.{is_leaving}
-use Rattle.pct_laws.specs.WaitStages.{NoWait, AtCall, InWait, ToReturn, Expired, ToTimeOut, Leaving, Left, ToEnd, wait_stage}
+use Rattle.pct_laws.specs.declared.stage.WaitStage.TheVariants.{NoWait, AtCall, InWait, ToReturn, Expired, ToTimeOut, Leaving, Left, ToEnd}
+use Rattle.pct_laws.specs.WaitStages.{wait_stage}
 
 -- the events keep the law
 abbrev keeps : List Event → Bool

@@ -1,6 +1,6 @@
 -- The lines of a report: their words are plain.
 use Rattle.pct_names.proofs.Names.{[], Alt, alt_words, and_parts, Bool, Caller, caller_name, class_of_stop, Config, contents_of, decimal}
-use Rattle.pct_names.proofs.Names.{declaration_syntax, either, end_line, Entry, entry_line, Event, event_line, event_words, false}
+use Rattle.pct_names.proofs.Names.{declaration_syntax, either, end_line, Entry, entry_line, Event, event_line, event_names, event_words, false}
 use Rattle.pct_names.proofs.Names.{format_number, header_line, Keyword, keyword_text, line_kind_of_caller, LineKind, List, list_all, map}
 use Rattle.pct_names.proofs.Names.{name_at, name_of_stop, names_of_kind, option_map_or, point_name, points, refl, Row, Script, slice_get}
 use Rattle.pct_names.proofs.Names.{stop_words, suc, SymbolKind, syntax_of, thread_text, title_line, true, Verdict, verdict_line}
@@ -72,7 +72,7 @@ stop_plain : (w : Why) → are_plain (stop_words w) ≡ true
 unfolding stop_words
 stop_plain w = all_plain (fixed (class_of_stop w) ∷ fixed (name_of_stop w) ∷ [])
 
-event_plain : (script : Script) (w : What) → are_plain (event_words script w) ≡ true
+event_plain : (script : Script) (w : What) → are_plain (event_words (event_names script) w) ≡ true
 unfolding event_words
 event_plain script (what.Emit v) = all_plain (fixed keyword.Emit ∷ number v ∷ [])
 event_plain script (what.Created id detached) = all_plain (fixed keyword.Create ∷ number id ∷ one_of keyword.Detached keyword.Joinable detached ∷ [])
@@ -119,7 +119,7 @@ event_plain script (what.Stopped why) = stop_plain why
 
 pub event_line_plain : (script : Script) (e : Event) → are_plain (event_line script e) ≡ true
 unfolding event_line
-event_line_plain script e = more (thread_text e.pid e.tid) (event_words script e.what) (thread_plain e.pid e.tid) (event_plain script e.what)
+event_line_plain script e = more (thread_text e.pid e.tid) (event_words (event_names script) e.what) (thread_plain e.pid e.tid) (event_plain script e.what)
 
 -- ---- other lines
 

@@ -1,7 +1,7 @@
 -- The schedule of a report is read back from its text.
 use Rattle.pct_names.proofs.Names.{◌&&◌, ◌+◌, ◌++◌, ◌<◌, [], All, All-head, All-tail, Alt, alt_words, and_from, and_parts, ap, arith, Bool}
 use Rattle.pct_names.proofs.Names.{bytes_eq, choice_of, cond, Config, decimal, digits, end_line, Entry, entry_in, entry_line, entry_of}
-use Rattle.pct_names.proofs.Names.{entry_of_words, Err, Event, event_line, event_words, false, false_from_ne_true, flat_map-cons, Format}
+use Rattle.pct_names.proofs.Names.{entry_of_words, Err, Event, event_line, event_names, event_words, false, false_from_ne_true, flat_map-cons, Format}
 use Rattle.pct_names.proofs.Names.{format_number, format_with, has_choice, header_line, header_of, header_of_words, if_known, is_config}
 use Rattle.pct_names.proofs.Names.{is_digit, is_end_of_words, join_with_byte, keyword_text, length, line_text, lines_of, List, list_all}
 use Rattle.pct_names.proofs.Names.{list_all-append, map, MAX_WORKER, nat_eq, nat_le, None, Ok, Option, option_and_then, option_map}
@@ -123,7 +123,7 @@ schedule_is_no_thread = refl
 event_passed : (n : ℕ) (script : Script) (e : Event) (lines : List (List (List ℕ))) → schedule_in n (lines_of (text_of (event_line script e ∷ lines))) ≡ schedule_in (n + 1) (lines_of (text_of lines))
 unfolding event_line
 event_passed n script e lines =
-    passed_over n (thread_text e.pid e.tid) (event_words script e.what) lines (event_line_plain script e)
+    passed_over n (thread_text e.pid e.tid) (event_words (event_names script) e.what) lines (event_line_plain script e)
     (apart is_thread_byte (thread_text e.pid e.tid) (keyword_text keyword.Schedule) (thread_is_thread e.pid e.tid) schedule_is_no_thread)
 
 events_passed : (script : Script) (events : List Event) (lines : List (List (List ℕ))) (read : Schedule) → ((n : ℕ) → schedule_in n (lines_of (text_of lines)) ≡ read)

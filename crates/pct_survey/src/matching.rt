@@ -3,7 +3,7 @@
 ghost use Rattle.std.specs.Prelude.{◌≡◌, ◌∷◌, ◌++◌, Some, bytes_eq, decimal, map, slice_get};
 ghost use Rattle.pct_expect.specs.Events.{matches, word_matches};
 ghost use Rattle.pct_io.specs.Fields.{field_text};
-ghost use Rattle.pct_model.specs.EventTexts.{event_words};
+ghost use Rattle.pct_model.specs.EventTexts.{event_names, event_words};
 ghost use Rattle.pct_model.specs.Report.{event_line};
 
 use itoa::Buffer;
@@ -29,7 +29,7 @@ pub(crate) fn is_match(script: &Script, event: &Event, pattern: &[Word]) -> bool
 
 // The word of an event, which is the second of its line.
 fn word_of(script: &Script, what: What) -> Field<'static>
-    ensures { slice_get (event_words script.now what) 0 ≡ Some (field_text result) }
+    ensures { slice_get (event_words (event_names script.now) what) 0 ≡ Some (field_text result) }
 {
     match fields_of_event(script, what) {
         Fields::One(word, _) => Field::Text(word.text()),

@@ -1,5 +1,5 @@
 -- The texts of fields and of lines, as their pieces one after the other.
-use Rattle.pct_names.proofs.Names.{◌++◌, [], ap, codes, Event, event_words, flat_map-map, List, map, refl, Script, sym, What, ℕ, ◌∙◌, ◌∷◌}
+use Rattle.pct_names.proofs.Names.{◌++◌, [], ap, codes, Event, event_names, event_words, flat_map-map, List, map, refl, Script, sym, What, ℕ, ◌∙◌, ◌∷◌}
 use Rattle.pct_names.proofs.Names.{◌≡◌}
 use Rattle.std.proofs.Common.{append_assoc}
 use Rattle.std.specs.List.{flat_map}
@@ -23,10 +23,10 @@ phrase_each phrase_of x xs = ap (λ text. phrase_text (phrase_of x) ++ text) (fl
 
 -- the field of events
 pub events_each : (script : Script) (first : Event) (others : List Event)
-    → field_text (map (event_words script) (map (λ e. e.what) (first ∷ others))) ≡ phrase_text (event_words script first.what) ++ flat_map (λ e. codes ", " ++ phrase_text (event_words script e.what)) others
+    → field_text (map (event_words (event_names script)) (map (λ e. e.what) (first ∷ others))) ≡ phrase_text (event_words (event_names script) first.what) ++ flat_map (λ e. codes ", " ++ phrase_text (event_words (event_names script) e.what)) others
 events_each script first others =
-    phrase_each (event_words script) first.what (map (λ e. e.what) others)
-    ∙ ap (λ text. phrase_text (event_words script first.what) ++ text) (flat_map-map (λ (what : What). codes ", " ++ phrase_text (event_words script what)) (λ (e : Event). e.what) others)
+    phrase_each (event_words (event_names script)) first.what (map (λ e. e.what) others)
+    ∙ ap (λ text. phrase_text (event_words (event_names script) first.what) ++ text) (flat_map-map (λ (what : What). codes ", " ++ phrase_text (event_words (event_names script) what)) (λ (e : Event). e.what) others)
 
 -- phrases before others
 pub phrases_before : (phrases : List Phrase) (next : Phrase) (others : List Phrase) → field_text (phrases ++ next ∷ others) ≡ before_comma phrases ++ field_text (next ∷ others)

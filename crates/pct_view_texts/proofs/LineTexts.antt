@@ -1,5 +1,5 @@
 -- The lines of steps and of threads, as the parts in which they are appended.
-use Rattle.pct_names.proofs.Names.{◌++◌, [], alt_words, ap, decimal, event_words, join_with_byte, List, map, OnOk, option_map_or, refl}
+use Rattle.pct_names.proofs.Names.{◌++◌, [], alt_words, ap, decimal, event_names, event_words, join_with_byte, List, map, OnOk, option_map_or, refl}
 use Rattle.pct_names.proofs.Names.{Result, Script, thread_text, ℕ, ◌∙◌, ◌∷◌, ◌≡◌}
 use Rattle.std.proofs.Common.{append_assoc}
 use Rattle.pct_view_laws.specs.Listed.{ListedThread}
@@ -52,13 +52,13 @@ module _ {E : Type 0} (r : Result (Unit {0}) E) (old : List ℕ) (lines : List (
   pub step_line : (threads places new : List ℕ) (number : ℕ) (s : TracedStep)
       → threads ≡ old ++ (decimal number ++ 9 ∷ thread_text s.entry.pid s.entry.tid ++ 9 ∷ [])
       → places ≡ threads ++ (field_text (option_map_or (start_phrases lines script) s.start []) ++ 9 ∷ field_text (option_map_or (λ start. statement_phrases script start.position) s.start []))
-      → OnOk r (new ≡ places ++ (9 ∷ join_with_byte 32 (alt_words s.entry.alt) ++ 9 ∷ field_text (map (event_words script) s.events) ++ 10 ∷ []))
+      → OnOk r (new ≡ places ++ (9 ∷ join_with_byte 32 (alt_words s.entry.alt) ++ 9 ∷ field_text (map (event_words (event_names script)) s.events) ++ 10 ∷ []))
       → OnOk r (new ≡ old ++ fields_text (step_fields lines script number s))
   unfolding step_fields
   step_line threads places new number s first second third =
       let place = option_map_or (start_phrases lines script) s.start [] in
       let statement = option_map_or (λ start. statement_phrases script start.position) s.start [] in
-      let events = map (event_words script) s.events in
+      let events = map (event_words (event_names script)) s.events in
       let outcome = 9 ∷ phrase_text (alt_words s.entry.alt) ++ 9 ∷ field_text events ++ 10 ∷ [] in
       as_text r old new _ _ (step_parts (decimal number) (thread_text s.entry.pid s.entry.tid) place statement (alt_words s.entry.alt) events)
       (then_text r old threads new (decimal number ++ 9 ∷ thread_text s.entry.pid s.entry.tid ++ 9 ∷ []) ((field_text place ++ 9 ∷ field_text statement) ++ outcome) first

@@ -7,7 +7,7 @@ use Rattle.pct_model.specs.declared.schedule.Entry.{Entry}
 use Rattle.pct_model.specs.declared.script.Script.{Script}
 use Rattle.pct_model.specs.declared.state.Status.{Status}
 use Rattle.pct_model.specs.declared.state.Status.TheVariants as status
-use Rattle.pct_model.specs.EventTexts.{event_words}
+use Rattle.pct_model.specs.EventTexts.{event_names, event_words}
 use Rattle.pct_model.specs.Keywords.{line_text}
 use Rattle.pct_model.specs.Report.{alt_words, thread_text, verdict_line}
 use Rattle.pct_model.specs.Run.{Run, verdict_of}
@@ -35,7 +35,7 @@ module _ (lines : List (List ℕ)) (script : Script) where
       ∷ option_map_or start_phrases s.start []
       ∷ option_map_or (λ start. statement_phrases script start.position) s.start []
       ∷ (alt_words s.entry.alt ∷ [])
-      ∷ map (event_words script) s.events
+      ∷ map (event_words (event_names script)) s.events
       ∷ []
 
   -- the lines of steps, which are numbered from this number on

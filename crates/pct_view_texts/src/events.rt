@@ -2,7 +2,7 @@
 
 ghost use Rattle.std.specs.Prelude.{◌++◌, map, codes};
 ghost use Rattle.std.specs.List.{flat_map};
-ghost use Rattle.pct_model.specs.EventTexts.{event_words};
+ghost use Rattle.pct_model.specs.EventTexts.{event_names, event_words};
 ghost use Rattle.pct_report.specs.EventFields.{words_of};
 ghost use Rattle.pct_view_texts.specs.Fields.{field_text, phrase_text};
 ghost use Rattle.pct_view_texts.specs.TextBuffers.{Appends};
@@ -19,7 +19,7 @@ pub(crate) fn push_events(
     script: &Script,
     events: &[Event],
 ) -> Result<(), NoMemory>
-    ensures { Appends text.old text.new (field_text (map (event_words script.now) (map (λ e. e.what) events.now))) result }
+    ensures { Appends text.old text.new (field_text (map (event_words (event_names script.now)) (map (λ e. e.what) events.now))) result }
 {
     match events.split_first() {
         None => text.push(b"-"),
@@ -36,7 +36,7 @@ fn push_other_events(
     script: &Script,
     events: &[Event],
 ) -> Result<(), NoMemory>
-    ensures { Appends text.old text.new (flat_map (λ e. codes ", " ++ phrase_text (event_words script.now e.what)) events.now) result }
+    ensures { Appends text.old text.new (flat_map (λ e. codes ", " ++ phrase_text (event_words (event_names script.now) e.what)) events.now) result }
 {
     for event in events {
         text.push(b", ")?;
@@ -47,7 +47,7 @@ fn push_other_events(
 
 // Appends an event.
 fn push_event(text: &mut TextBuffer, script: &Script, what: What) -> Result<(), NoMemory>
-    ensures { Appends text.old text.new (phrase_text (event_words script.now what)) result }
+    ensures { Appends text.old text.new (phrase_text (event_words (event_names script.now) what)) result }
 {
     push_fields(text, fields_of_event(script, what))
 }

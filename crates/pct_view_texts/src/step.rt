@@ -3,7 +3,7 @@
 ghost use Rattle.std.specs.Prelude.{[], ◌∷◌, ◌++◌, map, decimal};
 ghost use Rattle.std.specs.List.{join_with_byte};
 ghost use Rattle.std.specs.Option.{option_map_or};
-ghost use Rattle.pct_model.specs.EventTexts.{event_words};
+ghost use Rattle.pct_model.specs.EventTexts.{event_names, event_words};
 ghost use Rattle.pct_model.specs.Report.{alt_words, thread_text};
 ghost use Rattle.pct_view_texts.specs.Fields.{field_text, fields_text};
 ghost use Rattle.pct_view_texts.specs.Positions.{statement_phrases};
@@ -78,7 +78,7 @@ fn push_outcome(
     choice: Alt,
     events: &[Event],
 ) -> Result<(), NoMemory>
-    ensures { Appends text.old text.new (9 ∷ join_with_byte 32 (alt_words choice) ++ 9 ∷ field_text (map (event_words script.now) (map (λ e. e.what) events.now)) ++ 10 ∷ []) result }
+    ensures { Appends text.old text.new (9 ∷ join_with_byte 32 (alt_words choice) ++ 9 ∷ field_text (map (event_words (event_names script.now)) (map (λ e. e.what) events.now)) ++ 10 ∷ []) result }
 {
     text.push(b"\t")?;
     push_choice(text, choice)?;

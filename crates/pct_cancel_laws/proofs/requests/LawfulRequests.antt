@@ -21,7 +21,9 @@ use Rattle.pct_laws.specs.RequestsLaw.{is_sem_wait_point, is_cond_wait_point, ca
 use Rattle.pct_laws.specs.Kept.{is_call_of, is_leaving, WaitKept}
 use Rattle.pct_laws.specs.KnownThreads.{is_own}
 use Rattle.pct_laws.specs.ThreadSummary.{ThreadSummary, summary_of}
-use Rattle.pct_laws.specs.WaitStages.{WaitStage, Leaving, Left, stage_after, wait_stage}
+use Rattle.pct_laws.specs.declared.stage.WaitStage.{WaitStage}
+use Rattle.pct_laws.specs.declared.stage.WaitStage.TheVariants.{Leaving, Left}
+use Rattle.pct_laws.specs.WaitStages.{stage_after, wait_stage}
 use Rattle.pct_transition_cases.proofs.PlacedStatements.{IsPlaced, is_placed, statement_placed}
 use Rattle.pct_transition_cases.proofs.TransitionCases.{TransitionCase, is_wake_up, join_begun, state_set, cancel_tested, point_begun}
 use Rattle.pct_transition_cases.proofs.TransitionCases.{point_done, point_passed, canceled, canceled_at_point, canceled_in_join}

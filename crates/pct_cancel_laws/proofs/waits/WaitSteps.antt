@@ -14,7 +14,9 @@ use Rattle.pct_model.specs.declared.state.Status.TheVariants as status
 use Rattle.pct_model.specs.declared.transition.NamedAction.TheVariants as named_action
 use Rattle.pct_model.specs.declared.transition.OwnAction.TheVariants as own_action
 use Rattle.pct_laws.specs.Kept.{WaitKept, is_leaving}
-use Rattle.pct_laws.specs.WaitStages.{WaitStage, NoWait, AtCall, InWait, Expired, Leaving, Left, stage_after, wait_stage, may_follow_stage}
+use Rattle.pct_laws.specs.declared.stage.WaitStage.{WaitStage}
+use Rattle.pct_laws.specs.declared.stage.WaitStage.TheVariants.{NoWait, AtCall, InWait, Expired, Leaving, Left}
+use Rattle.pct_laws.specs.WaitStages.{stage_after, wait_stage, may_follow_stage}
 use Rattle.pct_transition_cases.proofs.CaseOfTransition.{case_of}
 use Rattle.pct_transition_cases.proofs.PlacedStatements.{IsPlaced, is_placed, statement_placed, next_placed, timed_placed}
 use Rattle.pct_transition_cases.proofs.TransitionCases.{TransitionCase, is_wake_up, rests, point_begun, wait_begun, timed_wait_begun}

@@ -6,7 +6,9 @@ use Rattle.pct_laws.specs.Each.{each}
 use Rattle.pct_laws.specs.CondLaw.{waits_allow, hand_ons_allow}
 use Rattle.pct_laws.specs.Kept.{WaitKept, is_wait_call, is_release}
 use Rattle.pct_laws.specs.FollowedEvents.{are_followed}
-use Rattle.pct_laws.specs.WaitStages.{WaitStage, NoWait, wait_stage, may_follow_stage}
+use Rattle.pct_laws.specs.declared.stage.WaitStage.{WaitStage}
+use Rattle.pct_laws.specs.declared.stage.WaitStage.TheVariants.{NoWait}
+use Rattle.pct_laws.specs.WaitStages.{wait_stage, may_follow_stage}
 use Rattle.pct_thread_invariants.proofs.lift.TakenSteps.{IsTaken, with_step, AfterEveryRun, every_run}
 use Rattle.pct_thread_invariants.proofs.lift.ThreadsAfter.{Moves, mover}
 use Rattle.pct_thread_invariants.proofs.lift.EveryProcess.{process_taken, moves_of_run}
