@@ -10,10 +10,10 @@ use crate::planned_run::PlannedRun;
 use crate::trace::Trace;
 use pct_io::NoMemory;
 use pct_machine::{Draw, Machine, ProcessView};
-use pct_model::{Config, Entry, Event, Script, Verdict};
+use pct_model::{Config, Entry, Event, Script, Transition, Verdict};
 use pct_ready_sets::AllReadySets;
 use pct_threads::Steps;
-use pct_transitions::{Program, no_change};
+use pct_transitions::Program;
 use std::alloc::Global;
 use std::marker::Model;
 use std::sync::ledger::Ledger;
@@ -28,9 +28,17 @@ pub struct NotLegal;
 pub struct Engine {
     program: Program,
     machine: Machine,
-    // What is known of the threads that have a choice.
-    sets: AllReadySets,
+    work: Workspace,
     trace: Trace,
+}
+
+/// What a step works with beside the state of the run.
+#[derive(Drop)]
+pub(crate) struct Workspace {
+    /// What is known of the threads that have a choice.
+    pub sets: AllReadySets,
+    /// The transition of the last step: the next one is written to the same place.
+    pub transition: Transition,
 }
 
 impl Model for Engine {
@@ -42,7 +50,7 @@ impl Model for Engine {
 
     ghost view = { λ e. record { script = e.program.script; config = e.program.config; history = e.trace.history } };
 
-    ghost invariant = { λ e. StandsFor e.program e.trace e.machine × FollowAll e.program.script (has_timeouts e.program.config.format) e.machine.processes e.sets };
+    ghost invariant = { λ e. StandsFor e.program e.trace e.machine × FollowAll e.program.script (has_timeouts e.program.config.format) e.machine.processes e.work.sets };
 }
 
 impl Engine {
@@ -67,7 +75,7 @@ impl Engine {
         ensures { self.new ≡ record self.old { history = [] } }
     {
         self.machine.restart(&self.program);
-        self.sets.mark_all();
+        self.work.sets.mark_all();
         self.trace.restart();
     }
 
@@ -75,17 +83,17 @@ impl Engine {
     pub(crate) fn of_parts(
         program: Program,
         machine: Machine,
-        sets: AllReadySets,
+        work: Workspace,
         trace: Trace,
     ) -> Engine
         requires stands { StandsFor program trace machine }
-        requires follow { FollowAll program.script (has_timeouts program.config.format) machine.processes sets }
+        requires follow { FollowAll program.script (has_timeouts program.config.format) machine.processes work.sets }
         ensures { result ≡ record { script = program.script; config = program.config; history = trace.history } }
     {
         Engine {
             program,
             machine,
-            sets,
+            work,
             trace,
         }
     }
@@ -106,7 +114,7 @@ impl Engine {
         step_with(
             &self.program,
             &mut self.machine,
-            &mut self.sets,
+            &mut self.work,
             &mut self.trace,
             entry,
             steps,
@@ -131,7 +139,7 @@ impl Engine {
             thread: a,
             choice: b,
         };
-        self.machine.chosen(&self.program, &self.sets, draw)
+        self.machine.chosen(&self.program, &self.work.sets, draw)
     }
 
     /// Makes the step of the entry that `choose` gives for these numbers, and returns the entry. `None` is returned exactly if the verdict is
@@ -155,11 +163,13 @@ impl Engine {
             thread: a,
             choice: b,
         };
-        let mut transition = no_change();
-        let entry = self
-            .machine
-            .advance(&self.program, &mut self.sets, draw, &mut transition)?;
-        self.trace.record_step(&entry, &transition.events);
+        let entry = self.machine.advance(
+            &self.program,
+            &mut self.work.sets,
+            draw,
+            &mut self.work.transition,
+        )?;
+        self.trace.record_step(&entry, &self.work.transition.events);
         Some(entry)
     }
 
@@ -222,28 +232,27 @@ impl Engine {
 pub(crate) fn step_with<L: Ledger>(
     program: &Program,
     machine: &mut Machine,
-    sets: &mut AllReadySets,
+    work: &mut Workspace,
     trace: &mut Trace,
     entry: Entry,
     steps: &mut Steps<L>,
 ) -> Result<(), NotLegal>
     requires stands { StandsFor program.now trace.old machine.old }
-    requires follow { FollowAll program.now.script (has_timeouts program.now.config.format) machine.old.processes sets.old }
+    requires follow { FollowAll program.now.script (has_timeouts program.now.config.format) machine.old.processes work.old.sets }
     ensures made { OnOk result (trace.new.history ≡ trace.old.history ++ entry ∷ []) }
     ensures planned { trace.new.planned ≡ (if is_ok result then drop 1 trace.old.planned else trace.old.planned) }
     ensures legal { IsOk result ↔ (is_some (run program.now.script program.now.config (trace.old.history ++ entry ∷ [])) ≡ true) }
     ensures same { OnErr result (trace.new.history ≡ trace.old.history) }
     ensures stands { StandsFor program.now trace.new machine.new }
-    ensures follow { FollowAll program.now.script (has_timeouts program.now.config.format) machine.new.processes sets.new }
+    ensures follow { FollowAll program.now.script (has_timeouts program.now.config.format) machine.new.processes work.new.sets }
     ensures count { (before : Run) → run program.now.script program.now.config trace.old.history ≡ Some before → steps.new ≤ steps.old + 4 + woken_by program.now.script program.now.config before.world entry }
 {
     if !trace.has_room() {
         return Err(NotLegal);
     }
-    let mut transition = no_change();
-    if !machine.step(program, sets, &entry, &mut transition, steps) {
+    if !machine.step(program, &mut work.sets, &entry, &mut work.transition, steps) {
         return Err(NotLegal);
     }
-    trace.record_step(&entry, &transition.events);
+    trace.record_step(&entry, &work.transition.events);
     Ok(())
 }

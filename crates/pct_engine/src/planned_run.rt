@@ -1,13 +1,13 @@
 //! A run whose entries are given before it is made.
 
-use crate::engine::{Engine, NotLegal, step_with};
+use crate::engine::{Engine, NotLegal, Workspace, step_with};
 use crate::trace::Trace;
 use pct_io::NoMemory;
 use pct_machine::Machine;
 use pct_model::{Config, Entry, Script};
 use pct_ready_sets::AllReadySets;
 use pct_threads::Steps;
-use pct_transitions::Program;
+use pct_transitions::{Program, no_change};
 use std::alloc::Global;
 use std::marker::Model;
 use std::sync::ledger::Ledger;
@@ -18,7 +18,7 @@ use std::sync::ledger::Ledger;
 pub struct PlannedRun {
     program: Program,
     machine: Machine,
-    sets: AllReadySets,
+    work: Workspace,
     trace: Trace,
 }
 
@@ -32,7 +32,7 @@ impl Model for PlannedRun {
 
     ghost view = { λ r. record { engine = record { script = r.program.script; config = r.program.config; history = r.trace.history }; planned = r.trace.planned } };
 
-    ghost invariant = { λ r. StandsFor r.program r.trace r.machine × FollowAll r.program.script (has_timeouts r.program.config.format) r.machine.processes r.sets };
+    ghost invariant = { λ r. StandsFor r.program r.trace r.machine × FollowAll r.program.script (has_timeouts r.program.config.format) r.machine.processes r.work.sets };
 }
 
 impl PlannedRun {
@@ -59,7 +59,10 @@ impl PlannedRun {
         Ok(PlannedRun {
             program,
             machine,
-            sets,
+            work: Workspace {
+                sets,
+                transition: no_change(),
+            },
             trace,
         })
     }
@@ -76,7 +79,7 @@ impl PlannedRun {
         step_with(
             &self.program,
             &mut self.machine,
-            &mut self.sets,
+            &mut self.work,
             &mut self.trace,
             entry,
             steps,
@@ -87,6 +90,6 @@ impl PlannedRun {
     pub fn into_engine(self) -> Engine
         ensures { result ≡ self.engine }
     {
-        Engine::of_parts(self.program, self.machine, self.sets, self.trace)
+        Engine::of_parts(self.program, self.machine, self.work, self.trace)
     }
 }

@@ -37,5 +37,5 @@ invariant_of-self c =
     let limits = (run_parts program.script program.config s.trace.history stands.after stands.is_run).limits in
     let emptied = c.restart-2.ensures ∙ (λ i. record { budget = stands.budget_is i; history = []; planned = []; events = [] }) in (
       stands-first program c.restart-2.new.self machine program.script program.config [] limits refl emptied c.restart.ensures,
-      subst (λ (vs : List ReadyValue). FollowAll program.script timeouts machine.processes vs) (sym c.mark_all.ensures) (follow_stale program.script timeouts machine.processes s.sets),
+      subst (λ (vs : List ReadyValue). FollowAll program.script timeouts machine.processes vs) (sym c.mark_all.ensures) (follow_stale program.script timeouts machine.processes s.work.sets),
     )
