@@ -1,0 +1,2 @@
+//! Events whose functions, mutexes, condition variables, semaphores and once controls are numbered otherwise.
+#![tactic(auto)]
