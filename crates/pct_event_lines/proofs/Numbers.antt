@@ -5,7 +5,7 @@ use Rattle.pct_names.proofs.Names.{all_different, and_parts, ap, arith, bytes_eq
 use Rattle.pct_names.proofs.Names.{option_and_then, position-Some, position_from, position_from-zero, refl, same_Some, slice_get, subst, sym, unwrap_or, ◌∙◌}
 use Rattle.pct_model.proofs.Bytes.{same_bytes, bytes_eq-refl}
 use Rattle.pct_name_numbers.specs.Numbering.{names_with}
-use Rattle.pct_name_numbers.proofs.IndexLemmas.{index_of_new}
+use Rattle.pct_name_numbers.proofs.IndexLemmas.{index_with}
 use Rattle.pct_event_laws.specs.Renamed.{IsInjective}
 use Rattle.pct_event_lines.specs.ReadBack.{number_of_index, IsNamed}
 
@@ -43,11 +43,6 @@ keeps-with w names = keeps_either (is_some (index_among names w)) names w
 
 -- ---- the number of a name that is read
 
--- a name has an index among the names with it
-index_by : (names : List (List ℕ)) (w : List ℕ) (index : Option ℕ) → index_among names w ≡ index → (i : ℕ) × (index_among (names_with w names) w ≡ Some i)
-index_by names w None at = (length names, index_of_new names w at)
-index_by names w (Some i) at = (i, ap (λ (index : Option ℕ). index_among (cond (is_some index) names (names ++ w ∷ [])) w) at ∙ at)
-
 -- the name at an index is the item there, since it is not the empty name
 named_item : (item : Option (List ℕ)) → is_name (unwrap_or item []) ≡ true → item ≡ Some (unwrap_or item [])
 unfolding is_name
@@ -63,7 +58,7 @@ pub number-with : (names read more : List (List ℕ)) (k : ℕ) → IsNamed name
     → index_among (names_with (name_at names k) read) (name_at names k) ≡ Some (number_of_index names more k)
 number-with names read more k named keeps =
     let w = name_at names k in
-    let found = index_by read w (index_among read w) refl in
+    let found = index_with read w in
     let number : number_of_index names more k ≡ found.0 =
     ap (λ (item : Option (List ℕ)). unwrap_or (option_and_then (λ name. index_among more name) item) (k + length more)) (item_at names k named)
     ∙ ap (λ (index : Option ℕ). unwrap_or index (k + length more)) (keeps w found.0 found.1)

@@ -1,6 +1,6 @@
 -- Reading the lines of events without a script. A name gets the number of different names of its kind that occur before its first
 -- occurrence as a name of that kind.
-use Rattle.std.specs.Prelude.{ℕ, Bool, true, false, ◌&&◌, if◌then◌else◌, List, [], ◌∷◌, Option, Some, None, bytes_eq, nat_eq, find, position, option_map, option_and_then}
+use Rattle.std.specs.Prelude.{ℕ, Bool, true, false, ◌&&◌, if◌then◌else◌, List, [], ◌∷◌, Option, Some, None, bytes_eq, nat_eq, find, position, option_map}
 use Rattle.pct_model.specs.declared.event.Caller.{Caller}
 use Rattle.pct_model.specs.declared.event.Caller.TheVariants as caller
 use Rattle.pct_model.specs.declared.event.Event.{Event}
