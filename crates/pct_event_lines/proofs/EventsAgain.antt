@@ -3,7 +3,7 @@ use Rattle.pct_names.proofs.Names.{◌≡◌, ℕ, List, [], ◌∷◌, map, Som
 use Rattle.pct_names.proofs.Names.{all_different, event_line, event_names, event_words, refl, true}
 use Rattle.pct_model.specs.declared.event.What.TheVariants as what
 use Rattle.pct_model.specs.EventTexts.{EventNames}
-use Rattle.pct_name_numbers.specs.EventReading.{events_of, no_names}
+use Rattle.pct_name_numbers.specs.EventReading.{event_of, events_of}
 use Rattle.pct_name_numbers.specs.Numbering.{names_with}
 use Rattle.pct_event_laws.specs.Renamed.{renamed_event}
 use Rattle.pct_event_lines.specs.ReadBack.{naming, after, after_all, with_function, with_mutex, with_cond, with_sem, with_once, IsEventText}
@@ -72,14 +72,17 @@ all-keeps s n [] = all-refl n
 all-keeps s n (e ∷ events) =
     all-trans n (after s n e.what) (after_all s (after s n e.what) events) (after-keeps s n e.what) (all-keeps s (after s n e.what) events)
 
+pub line_again : (script : Script) (n more : EventNames) (e : Event) → IsEventText (event_names script) e → KeepsAll (after (event_names script) n e.what) more
+    → event_of n (event_line script e) ≡ Some (after (event_names script) n e.what, renamed_event (naming (event_names script) more) e)
+unfolding event_line
+line_again script n more e text keeps =
+    rw (thread_again e.pid e.tid text.pid text.tid, event_again (event_names script) n more e.what text.what keeps) refl
+
 pub events_again : (script : Script) (n more : EventNames) (events : List Event) → All (IsEventText (event_names script)) events → KeepsAll (after_all (event_names script) n events) more
     → events_of n (map (event_line script) events) ≡ Some (after_all (event_names script) n events, map (renamed_event (naming (event_names script) more)) events)
-unfolding event_line
 events_again script n more [] texts keeps = refl
 events_again script n more (e ∷ events) texts keeps =
     let s = event_names script in
-    let first = All-head (IsEventText s) e events texts in
     let next = after s n e.what in
-    rw (thread_again e.pid e.tid first.pid first.tid,
-        event_again s n more e.what first.what (all-trans next (after_all s next events) more (all-keeps s next events) keeps),
+    rw (line_again script n more e (All-head (IsEventText s) e events texts) (all-trans next (after_all s next events) more (all-keeps s next events) keeps),
         events_again script next more events (All-tail (IsEventText s) e events texts) keeps) refl
