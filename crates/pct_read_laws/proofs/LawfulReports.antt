@@ -1,0 +1,31 @@
+-- What is read of the report of a run: its events, with the numbers of their names, which keep the laws that the events keep.
+use Rattle.pct_names.proofs.Names.{◌≡◌, ℕ, List, [], ◌∷◌, ◌++◌, map, reverse, Config, Event, Script}
+use Rattle.pct_names.proofs.Names.{ap, map-append, refl, reverse-append, reverse-reverse, subst, sym, ◌∙◌}
+use Rattle.pct_name_numbers.specs.EventReading.{events_of, no_names}
+use Rattle.pct_event_laws.specs.EventLaws.{EventLaws}
+use Rattle.pct_event_laws.specs.Renamed.{RenamingKeepsLaws, renamed_event, renamed_events}
+use Rattle.pct_event_lines.specs.EventLines.{AreReadBack, names_read, read_naming}
+use Rattle.pct_report_laws.specs.ReportsRead.{IsReadAs}
+use Rattle.pct_read_laws.specs.RunsRead.{IsLawfulReport}
+
+reverse-map : (f : Event → Event) (xs : List Event) → reverse (map f xs) ≡ map f (reverse xs)
+reverse-map f [] = refl
+reverse-map f (x ∷ xs) =
+    reverse-append (f x ∷ []) (map f xs) ∙ ap (λ (ys : List Event). ys ++ f x ∷ []) (reverse-map f xs)
+    ∙ sym (map-append f (reverse xs) (x ∷ [])) ∙ ap (map f) (sym (reverse-append (x ∷ []) xs))
+
+restored : (f : Event → Event) (xs : List Event) → reverse (map f (reverse xs)) ≡ map f xs
+restored f xs = reverse-map f (reverse xs) ∙ ap (map f) (reverse-reverse xs)
+
+-- the events are those of a run, the newest first
+pub lawful : (script : Script) (config : Config) (events : List Event) (text : List ℕ) → RenamingKeepsLaws → EventLaws config.passes config.slots events
+    → IsReadAs script config (reverse events) text → AreReadBack script (reverse events) → IsLawfulReport config text
+lawful script config events text renaming laws report lines =
+    let naming = read_naming script (reverse events) in
+    record {
+      names = names_read script (reverse events);
+      events = renamed_events naming (reverse events);
+      report = report.report;
+      read = ap (events_of no_names) report.words ∙ lines.read;
+      laws = subst (EventLaws config.passes config.slots) (sym (restored (renamed_event naming) events)) (renaming config.passes config.slots naming events lines.apart laws);
+    }

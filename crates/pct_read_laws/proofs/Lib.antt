@@ -1,0 +1,2 @@
+pub mod EventTexts
+pub mod LawfulReports
