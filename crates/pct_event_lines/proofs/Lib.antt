@@ -1,4 +1,3 @@
 pub mod Numbers
 pub mod EventAgain
 pub mod EventsAgain
-pub mod DifferentNames

@@ -6,7 +6,9 @@ use Rattle.pct_model.specs.EventTexts.{EventNames, event_names}
 use Rattle.pct_model.specs.Report.{event_line}
 use Rattle.pct_name_numbers.specs.EventReading.{events_of, no_names}
 use Rattle.pct_event_laws.specs.Renamed.{Naming, TellsApart, renamed_events}
-use Rattle.pct_event_lines.specs.ReadBack.{IsEventText, after_all, naming}
+use Rattle.pct_event_bounds.specs.EventBounds.{EventNamesItems}
+use Rattle.pct_event_bounds.specs.EventNumbers.{EventNumbersFit}
+use Rattle.pct_event_lines.specs.ReadBack.{after_all, naming}
 
 -- the names that are read of the lines of a script's events, the oldest first
 abbrev pub names_read : Script → List Event → EventNames
@@ -21,5 +23,7 @@ pub record AreReadBack (script : Script) (events : List Event) : Type 0 where
   pub read : events_of no_names (map (event_line script) events) ≡ Some (names_read script events, renamed_events (read_naming script events) events)
   pub apart : TellsApart (read_naming script events)
 
+-- so it is with events that name items of the script, by numbers of 32 bits
 abbrev pub EventLinesAreReadBack : Type 0
-EventLinesAreReadBack = (script : Script) (events : List Event) → All (IsEventText (event_names script)) events → AreReadBack script events
+EventLinesAreReadBack =
+    (script : Script) (events : List Event) → All (EventNamesItems (event_names script)) events → All EventNumbersFit events → AreReadBack script events

@@ -1,12 +1,11 @@
--- What is read of the words of an event, and which events are read back from their words. The numbers in a report are numbers of the
--- names that were read, in the order of their first occurrences, while the events of a run have the indexes of names in the script.
-use Rattle.std.specs.Prelude.{◌≡◌, ℕ, ◌+◌, ◌≤◌, ◌<◌, true, List, [], ◌∷◌, length, slice_get, unwrap_or, option_and_then}
+-- What is read of the words of events. In a report, names are numbered in the order of their first occurrences, while the events of a run
+-- have the indexes of names in the script.
+use Rattle.std.specs.Prelude.{ℕ, ◌+◌, List, [], ◌∷◌, length, slice_get, unwrap_or, option_and_then}
 use Rattle.pct_model.specs.declared.event.Event.{Event}
 use Rattle.pct_model.specs.declared.event.What.{What}
 use Rattle.pct_model.specs.declared.event.What.TheVariants as what
 use Rattle.pct_model.specs.EventTexts.{EventNames}
-use Rattle.pct_model.specs.Names.{index_among, is_name, name_at}
-use Rattle.pct_model.specs.Points.{points}
+use Rattle.pct_model.specs.Names.{index_among, name_at}
 use Rattle.pct_name_numbers.specs.Numbering.{names_with}
 use Rattle.pct_event_laws.specs.Renamed.{Naming}
 
@@ -72,72 +71,3 @@ module _ (script read : EventNames) where
 abbrev pub after_all : EventNames → EventNames → List Event → EventNames
 after_all script read [] = read
 after_all script read (e ∷ events) = after_all script (after script read e.what) events
-
--- ---- events that are read back
-
--- a number of 32 bits
-abbrev pub Fits : ℕ → Type 0
-Fits k = k ≤ 4294967295
-
--- a number of 32 bits that is not 0
-abbrev pub FitsPositive : ℕ → Type 0
-FitsPositive k = Fits k × (0 < k)
-
--- the index of a name
-abbrev pub IsNamed : List (List ℕ) → ℕ → Type 0
-IsNamed names k = is_name (name_at names k) ≡ true
-
--- the index of a cancellation point
-abbrev pub IsPoint : ℕ → Type 0
-IsPoint point = point < length points
-
--- the event's indexes are those of names and points, its numbers have 32 bits, and ids are not 0
-abbrev pub IsText : EventNames → What → Type 0
-IsText names (what.Emit v) = Fits v
-IsText names (what.Created id detached) = FitsPositive id
-IsText names (what.Answer call v) = Fits v
-IsText names (what.Pushed f a) = IsNamed names.functions f × Fits a
-IsText names (what.Popped f a run) = IsNamed names.functions f × Fits a
-IsText names (what.Request id) = Fits id
-IsText names (what.Detached id) = Fits id
-IsText names (what.StateSet enable) = Unit {0}
-IsText names (what.ModeSet asynchronous) = Unit {0}
-IsText names (what.Called point) = IsPoint point
-IsText names (what.Done point) = IsPoint point
-IsText names (what.Joined id v) = Fits id × Fits v
-IsText names (what.EndingExit v) = Fits v
-IsText names what.EndingCanceled = Unit {0}
-IsText names (what.EndingInWait c m) = IsNamed names.conds c × IsNamed names.mutexes m
-IsText names (what.HandlerRun f a) = IsNamed names.functions f × Fits a
-IsText names (what.PassBegun v) = Fits v
-IsText names (what.DtorRun pass key f v) = Fits pass × Fits key × IsNamed names.functions f × Fits v
-IsText names (what.Leftover v) = Fits v
-IsText names (what.EndedWith v) = Fits v
-IsText names (what.KeyMade k) = Fits k
-IsText names (what.KeyGone k) = Fits k
-IsText names (what.Acquired m) = IsNamed names.mutexes m
-IsText names (what.Released m) = IsNamed names.mutexes m
-IsText names (what.Signalled c id) = IsNamed names.conds c × Fits id
-IsText names (what.BroadcastTo c count) = IsNamed names.conds c × Fits count
-IsText names (what.WaitCanceled c) = IsNamed names.conds c
-IsText names (what.WaitExpired c) = IsNamed names.conds c
-IsText names (what.HandedOn c id) = IsNamed names.conds c × Fits id
-IsText names (what.Taken s) = IsNamed names.sems s
-IsText names (what.Posted s) = IsNamed names.sems s
-IsText names (what.OnceCalled o) = IsNamed names.onces o
-IsText names (what.OnceDone o) = IsNamed names.onces o
-IsText names (what.Forked pid) = FitsPositive pid
-IsText names (what.PrepareRun f) = IsNamed names.functions f
-IsText names (what.ParentRun f) = IsNamed names.functions f
-IsText names (what.ChildRun f) = IsNamed names.functions f
-IsText names (what.ExitBegun v) = Fits v
-IsText names (what.ExitRun f) = IsNamed names.functions f
-IsText names (what.ProcessEnded v) = Fits v
-IsText names (what.Reaped pid v) = Fits pid × Fits v
-IsText names (what.Stopped why) = Unit {0}
-
--- such an event of a thread, whose process id and thread id are numbers of 32 bits and not 0
-pub record IsEventText (names : EventNames) (e : Event) : Type 0 where
-  pub pid : FitsPositive e.pid
-  pub tid : FitsPositive e.tid
-  pub what : IsText names e.what

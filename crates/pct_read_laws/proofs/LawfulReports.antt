@@ -1,5 +1,5 @@
 -- What is read of the report of a run: its events, with the numbers of their names, which keep the laws that the events keep.
-use Rattle.pct_names.proofs.Names.{◌≡◌, ℕ, List, [], ◌∷◌, ◌++◌, map, reverse, Config, Event, Script}
+use Rattle.pct_names.proofs.Names.{◌≡◌, ℕ, List, [], ◌∷◌, ◌++◌, map, reverse, All, All-head, All-push, All-tail, Config, Event, Script}
 use Rattle.pct_names.proofs.Names.{ap, map-append, refl, reverse-append, reverse-reverse, subst, sym, ◌∙◌}
 use Rattle.pct_name_numbers.specs.EventReading.{events_of, no_names}
 use Rattle.pct_event_laws.specs.EventLaws.{EventLaws}
@@ -16,6 +16,11 @@ reverse-map f (x ∷ xs) =
 
 restored : (f : Event → Event) (xs : List Event) → reverse (map f (reverse xs)) ≡ map f xs
 restored f xs = reverse-map f (reverse xs) ∙ ap (map f) (reverse-reverse xs)
+
+pub all_reversed : {A : Type 0} (P : A → Type 0) (xs : List A) → All P xs → All P (reverse xs)
+all_reversed P [] all = all
+all_reversed P (x ∷ xs) all =
+    subst (All P) (sym (reverse-append (x ∷ []) xs)) (All-push P (reverse xs) x (all_reversed P xs (All-tail P x xs all)) (All-head P x xs all))
 
 -- the events are those of a run, the newest first
 pub lawful : (script : Script) (config : Config) (events : List Event) (text : List ℕ) → RenamingKeepsLaws → EventLaws config.passes config.slots events

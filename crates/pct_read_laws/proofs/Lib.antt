@@ -1,2 +1,1 @@
-pub mod EventTexts
 pub mod LawfulReports

@@ -21,8 +21,8 @@ pub record IsLawfulReport (config : Config) (text : List ℕ) : Type 0 where
   pub read : events_of no_names (event_words_in text) ≡ Some (names, events)
   pub laws : EventLaws config.passes config.slots (reverse events)
 
--- so is the report of every run, if the numbers in its events have 32 bits
+-- such is the report of every run, if the numbers in its events have 32 bits, as those of a list of events of the host have
 abbrev pub ReportsOfRunsAreLawful : Type 0
 ReportsOfRunsAreLawful =
     (script : Script) (config : Config) (entries : List Entry) (r : Run)
-    → run script config entries ≡ Some r → All EventNumbersFit r.events → IsLawfulReport config (report_of script config entries r)
+    → run script config entries ≡ Some r → All EventNumbersFit (reverse r.events) → IsLawfulReport config (report_of script config entries r)

@@ -3,20 +3,19 @@
 ghost use Rattle.pct_read_laws.specs.RunsRead.{ReportsOfRunsAreLawful};
 
 use pct_ending_laws::runs_end_threads;
-use pct_event_bounds::{runs_name_items, scripts_have_names};
+use pct_event_bounds::runs_name_items;
 use pct_event_laws::{laws_are_of_events, renaming_changes_no_law};
 use pct_event_lines::event_lines_are_read_back;
 use pct_report_laws::reports_are_read;
 
 /// The report of every run is read back, with the configuration of the run, and the events that are read keep the laws of events. The
-/// numbers in the events of the run have to have 32 bits, as those of each list of events have (`numbers_fit`).
+/// numbers in the events of the run have to have 32 bits; `numbers_fit` of `pct_event_bounds` says it of events that are stored.
 pub fn reports_of_runs_are_lawful()
     ensures { ReportsOfRunsAreLawful }
 {
     runs_end_threads();
     laws_are_of_events();
     renaming_changes_no_law();
-    scripts_have_names();
     runs_name_items();
     event_lines_are_read_back();
     reports_are_read();
