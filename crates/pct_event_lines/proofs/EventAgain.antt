@@ -1,8 +1,8 @@
 -- The words of an event are read as the event, under the numbers of its names.
 use Rattle.std.proofs.Common.{ne_eqb}
-use Rattle.pct_names.proofs.Names.{◌≡◌, ℕ, ◌+◌, ◌<◌, Bool, true, false, List, [], ◌∷◌, length, Option, Some, None, Caller, What, Why, Row, Keyword}
-use Rattle.pct_names.proofs.Names.{ap, arith, bytes_eq, caller_name, decimal, event_words, get_or, keyword_text, nat_eq, option_and_then, option_map, point_at, point_name}
-use Rattle.pct_names.proofs.Names.{point_of, points, position, refl, same_Some, slice_get, slice_get-get_or, split_once, stop_words, subst, sym, syntax_of, thread_text, ◌∙◌}
+use Rattle.pct_names.proofs.Names.{◌≡◌, ℕ, ◌<◌, true, false, [], length, Option, Some, None, Caller, What, Why, Row}
+use Rattle.pct_names.proofs.Names.{ap, arith, bytes_eq, caller_name, decimal, event_words, keyword_text, nat_eq, option_and_then, option_map, point_at, point_name}
+use Rattle.pct_names.proofs.Names.{point_of, points, position, refl, same_Some, slice_get, slice_get-get_or, stop_words, syntax_of, thread_text, ◌∙◌}
 use Rattle.pct_names.proofs.Names.{Point, Required, NoWait}
 use Rattle.pct_model.specs.declared.event.Caller.TheVariants as caller
 use Rattle.pct_model.specs.declared.event.What.TheVariants as what

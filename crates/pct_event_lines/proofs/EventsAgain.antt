@@ -1,10 +1,9 @@
 -- The lines of events are read as the events, under the numbers of their names.
 use Rattle.pct_names.proofs.Names.{◌≡◌, ℕ, List, [], ◌∷◌, map, Some, All, All-cons, All-head, All-nil, All-tail, Event, Script, What}
-use Rattle.pct_names.proofs.Names.{all_different, event_line, event_names, event_words, refl, true}
+use Rattle.pct_names.proofs.Names.{event_line, event_names, refl}
 use Rattle.pct_model.specs.declared.event.What.TheVariants as what
 use Rattle.pct_model.specs.EventTexts.{EventNames}
 use Rattle.pct_name_numbers.specs.EventReading.{event_of, events_of}
-use Rattle.pct_name_numbers.specs.Numbering.{names_with}
 use Rattle.pct_event_laws.specs.Renamed.{renamed_event}
 use Rattle.pct_event_bounds.specs.EventBounds.{EventNamesItems}
 use Rattle.pct_event_bounds.specs.EventNumbers.{EventNumbersFit}
@@ -91,8 +90,10 @@ events_again script n more [] texts keeps = refl
 events_again script n more (e ∷ events) texts keeps =
     let s = event_names script in
     let next = after s n e.what in
-    rw (line_again script n more e (All-head (HasText script) e events texts) (all-trans next (after_all s next events) more (all-keeps s next events) keeps),
-        events_again script next more events (All-tail (HasText script) e events texts) keeps) refl
+    rw (
+      line_again script n more e (All-head (HasText script) e events texts) (all-trans next (after_all s next events) more (all-keeps s next events) keeps),
+      events_again script next more events (All-tail (HasText script) e events texts) keeps,
+    ) refl
 
 pub have_texts : (script : Script) (events : List Event) → All (EventNamesItems (event_names script)) events → All EventNumbersFit events → All (HasText script) events
 have_texts script [] items fit = All-nil (HasText script)

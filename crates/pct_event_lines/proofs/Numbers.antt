@@ -2,7 +2,7 @@
 use Rattle.std.proofs.Common.{eq-eqb, ne_eqb, true≢false, ⊎_elim}
 use Rattle.pct_names.proofs.Names.{◌≡◌, ℕ, zero, suc, ◌+◌, ◌<◌, Bool, true, false, cond, not, ◌||◌, List, [], ◌∷◌, ◌++◌, length, get_or, Option, Some, None}
 use Rattle.pct_names.proofs.Names.{all_different, and_parts, ap, arith, bytes_eq, eqb_tells, index_among, is_name, is_some, list_all, list_any, name_at, nat_eq, not-true}
-use Rattle.pct_names.proofs.Names.{option_and_then, option_map, position-Some, position_from, position_from-zero, refl, same_Some, slice_get, subst, sym, unwrap_or, ◌∙◌}
+use Rattle.pct_names.proofs.Names.{option_and_then, option_map, position-Some, position_from, position_from-zero, refl, same_Some, slice_get, sym, unwrap_or, ◌∙◌}
 use Rattle.pct_model.proofs.Bytes.{same_bytes, bytes_eq-refl}
 use Rattle.pct_name_numbers.specs.EventReading.{numbered}
 use Rattle.pct_name_numbers.specs.Numbering.{names_with}

@@ -1,10 +1,8 @@
 -- The line of an event has the form of an event, and it does not begin as a verdict.
-use Rattle.pct_names.proofs.Names.{◌≡◌, ℕ, ◌+◌, ◌<◌, ◌^◌, Bool, true, false, ◌&&◌, List, [], ◌∷◌, ◌++◌, length, map, is_some, Option, Some, All, All-head, All-tail}
+use Rattle.pct_names.proofs.Names.{◌≡◌, ℕ, ◌<◌, Bool, true, false, ◌&&◌, List, [], ◌∷◌, ◌++◌, length, is_some}
 use Rattle.pct_names.proofs.Names.{and_parts, ap, arith, codes, decimal, decimal_nonempty, Event, event_line, event_names, event_words, is_digit, join_with_byte, keyword_text, list_all, nat_eq, nat_le}
-use Rattle.pct_names.proofs.Names.{refl, Script, sym, subst, thread_text, words_of, ◌∙◌}
+use Rattle.pct_names.proofs.Names.{refl, Script, thread_text, words_of, ◌∙◌}
 use Rattle.std.proofs.Common.{ne_eqb, leb-true}
-use Rattle.pct_model.specs.declared.keyword.Keyword.TheVariants as keyword
-use Rattle.pct_model.specs.EventTexts.{EventNames}
 use Rattle.pct_model.specs.Schedule.{begins}
 use Rattle.pct_text.proofs.Numbers.{digits_of_decimal}
 use Rattle.pct_name_numbers.specs.EventReading.{Reading, no_names}

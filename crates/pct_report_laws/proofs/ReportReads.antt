@@ -1,7 +1,7 @@
 -- A report is read.
-use Rattle.pct_names.proofs.Names.{◌≡◌, ℕ, ◌+◌, Bool, true, false, cond, List, [], ◌∷◌, ◌++◌, length, map, Err, Ok, Option, Some, All, All-head, All-tail}
-use Rattle.pct_names.proofs.Names.{ap, arith, Config, Entry, Event, event_line, Format, join_with_byte, line_text, lines_of, refl, report_lines, schedule_lines, Script, strip_cr}
-use Rattle.pct_names.proofs.Names.{subst, sym, text_of, title_line, Verdict, verdict_line, words_of, ◌∙◌}
+use Rattle.pct_names.proofs.Names.{◌≡◌, ℕ, ◌+◌, Bool, true, false, cond, List, [], ◌∷◌, ◌++◌, length, map, Err, Ok, Option, All, All-head, All-tail}
+use Rattle.pct_names.proofs.Names.{ap, arith, Config, Entry, Event, event_line, Format, join_with_byte, lines_of, refl, report_lines, schedule_lines, Script, strip_cr}
+use Rattle.pct_names.proofs.Names.{text_of, title_line, Verdict, verdict_line, words_of, ◌∙◌}
 use Rattle.std.proofs.Common.{append_assoc}
 use Rattle.pct_schedule.specs.Schedules.{IsSchedule}
 use Rattle.pct_schedule_laws.proofs.PlainLines.{event_line_plain, title_line_plain, verdict_line_plain}
