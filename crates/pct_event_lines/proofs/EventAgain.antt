@@ -15,7 +15,7 @@ use Rattle.pct_name_numbers.specs.EventReading.{caller_of, event_keyword, fields
 use Rattle.pct_event_laws.specs.Renamed.{renamed}
 use Rattle.pct_event_bounds.specs.EventBounds.{HasNames, IsPoint, NamesItems}
 use Rattle.pct_event_bounds.specs.EventNumbers.{Fits, NumbersFit}
-use Rattle.pct_event_lines.specs.ReadBack.{naming, after}
+use Rattle.pct_event_lines.proofs.NamesRead.{naming, after}
 use Rattle.pct_event_lines.proofs.Numbers.{Keeps, numbered_again}
 
 -- the names of each kind keep their numbers among more names

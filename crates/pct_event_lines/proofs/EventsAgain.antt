@@ -8,7 +8,7 @@ use Rattle.pct_event_laws.specs.Renamed.{renamed_event}
 use Rattle.pct_event_bounds.specs.EventBounds.{EventNamesItems}
 use Rattle.pct_event_bounds.specs.EventNumbers.{EventNumbersFit}
 use Rattle.pct_event_bounds.proofs.ScriptNames.{names_of_scripts}
-use Rattle.pct_event_lines.specs.ReadBack.{naming, after, after_all, with_function, with_mutex, with_cond, with_sem, with_once}
+use Rattle.pct_event_lines.proofs.NamesRead.{naming, after, after_all, with_function, with_mutex, with_cond, with_sem, with_once}
 use Rattle.pct_event_lines.proofs.Numbers.{keeps-refl, keeps-trans, keeps-with}
 use Rattle.pct_event_lines.proofs.EventAgain.{KeepsAll, event_again, thread_again}
 

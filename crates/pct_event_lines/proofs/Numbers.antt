@@ -9,7 +9,7 @@ use Rattle.pct_name_numbers.specs.Numbering.{names_with}
 use Rattle.pct_name_numbers.proofs.IndexLemmas.{index_with}
 use Rattle.pct_event_laws.specs.Renamed.{IsInjective}
 use Rattle.pct_event_bounds.specs.EventBounds.{AreNames, IsIndexOf}
-use Rattle.pct_event_lines.specs.ReadBack.{number_of_index}
+use Rattle.pct_event_lines.proofs.NamesRead.{number_of_index}
 
 -- ---- names that were read keep their numbers
 

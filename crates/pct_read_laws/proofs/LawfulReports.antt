@@ -4,7 +4,7 @@ use Rattle.pct_names.proofs.Names.{ap, map-append, refl, reverse-append, reverse
 use Rattle.pct_name_numbers.specs.EventReading.{events_of, no_names}
 use Rattle.pct_event_laws.specs.EventLaws.{EventLaws}
 use Rattle.pct_event_laws.specs.Renamed.{RenamingKeepsLaws, renamed_event, renamed_events}
-use Rattle.pct_event_lines.specs.EventLines.{AreReadBack, names_read, read_naming}
+use Rattle.pct_event_lines.specs.EventLines.{AreReadBack}
 use Rattle.pct_report_laws.specs.ReportsRead.{IsReadAs}
 use Rattle.pct_read_laws.specs.RunsRead.{IsLawfulReport}
 
@@ -25,12 +25,10 @@ all_reversed P (x ∷ xs) all =
 -- the events are those of a run, the newest first
 pub lawful : (script : Script) (config : Config) (events : List Event) (text : List ℕ) → RenamingKeepsLaws → EventLaws config.passes config.slots events
     → IsReadAs script config (reverse events) text → AreReadBack script (reverse events) → IsLawfulReport config text
-lawful script config events text renaming laws report lines =
-    let naming = read_naming script (reverse events) in
-    record {
-      names = names_read script (reverse events);
-      events = renamed_events naming (reverse events);
-      report = report.report;
-      read = ap (events_of no_names) report.words ∙ lines.read;
-      laws = subst (EventLaws config.passes config.slots) (sym (restored (renamed_event naming) events)) (renaming config.passes config.slots naming events lines.apart laws);
-    }
+lawful script config events text renaming laws report lines = record {
+  names = lines.names;
+  events = renamed_events lines.naming (reverse events);
+  report = report.report;
+  read = ap (events_of no_names) report.words ∙ lines.read;
+  laws = subst (EventLaws config.passes config.slots) (sym (restored (renamed_event lines.naming) events)) (renaming config.passes config.slots lines.naming events lines.apart laws);
+}

@@ -11,7 +11,7 @@ use Rattle.pct_schedule_laws.proofs.PlainLines.{event_line_plain}
 use Rattle.pct_schedule_laws.proofs.ReadBack.{words_again}
 use Rattle.pct_event_forms.proofs.EventsRead.{event_read}
 use Rattle.pct_event_bounds.specs.EventNumbers.{Fits}
-use Rattle.pct_event_lines.specs.ReadBack.{after}
+use Rattle.pct_event_lines.proofs.NamesRead.{after}
 use Rattle.pct_event_lines.proofs.EventsAgain.{HasText, all-refl, line_again}
 
 -- ---- the first byte

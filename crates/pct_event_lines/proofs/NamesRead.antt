@@ -1,5 +1,5 @@
--- What is read of the words of events. In a report, names are numbered in the order of their first occurrences, while the events of a run
--- have the indexes of names in the script.
+-- The names that are read of the words of events, and their numbers. In a report, names are numbered in the order of their first
+-- occurrences, while the events of a run have the indexes of names in the script.
 use Rattle.std.specs.Prelude.{ℕ, ◌+◌, List, [], ◌∷◌, length, slice_get, unwrap_or, option_and_then}
 use Rattle.pct_model.specs.declared.event.Event.{Event}
 use Rattle.pct_model.specs.declared.event.What.{What}
@@ -28,6 +28,7 @@ naming script read = record {
 -- ---- the names that were read after an event
 
 module _ (script read : EventNames) where
+  -- the names that were read, and then the name of a function, mutex, condition variable, semaphore or once control
   abbrev pub with_function : ℕ → EventNames
   with_function f = record read { functions = names_with (name_at script.functions f) read.functions }
 
