@@ -1,5 +1,5 @@
 -- The law that the report of every run is read back, with its configuration, and that the events that are read keep the laws.
-use Rattle.std.specs.Prelude.{◌≡◌, ℕ, List, map, reverse, All, Some, Ok}
+use Rattle.std.specs.Prelude.{◌≡◌, ℕ, List, length, map, reverse, All, Some, Ok}
 use Rattle.pct_model.specs.declared.event.Event.{Event}
 use Rattle.pct_model.specs.declared.schedule.Config.{Config}
 use Rattle.pct_model.specs.declared.schedule.Entry.{Entry}
@@ -13,16 +13,19 @@ use Rattle.pct_event_laws.specs.EventLaws.{EventLaws}
 use Rattle.pct_event_bounds.specs.EventNumbers.{EventNumbersFit}
 use Rattle.pct_report_laws.specs.ReportsRead.{event_words_in}
 
--- the text is read as a report with this configuration and with events, the oldest first, and these keep the laws of events
-pub record IsLawfulReport (config : Config) (text : List ℕ) : Type 0 where
+-- the text is read as a report with this configuration and with so many events, the oldest first, each in a line, and they keep the laws
+pub record IsLawfulReport (config : Config) (count : ℕ) (text : List ℕ) : Type 0 where
   pub names : EventNames
   pub events : List Event
   pub report : report_in text ≡ Ok (config, map span_of (event_lines text))
   pub read : events_of no_names (event_words_in text) ≡ Some (names, events)
+  pub events_count : length events ≡ count
+  pub lines_count : length (event_lines text) ≡ count
   pub laws : EventLaws config.passes config.slots (reverse events)
 
 -- such is the report of every run, if the numbers in its events have 32 bits, as those of a list of events of the host have
 abbrev pub ReportsOfRunsAreLawful : Type 0
 ReportsOfRunsAreLawful =
     (script : Script) (config : Config) (entries : List Entry) (r : Run)
-    → run script config entries ≡ Some r → All EventNumbersFit (reverse r.events) → IsLawfulReport config (report_of script config entries r)
+    → run script config entries ≡ Some r → All EventNumbersFit (reverse r.events)
+    → IsLawfulReport config (length r.events) (report_of script config entries r)

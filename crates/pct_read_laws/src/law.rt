@@ -8,8 +8,9 @@ use pct_event_laws::{laws_are_of_events, renaming_changes_no_law};
 use pct_event_lines::event_lines_are_read_back;
 use pct_report_laws::reports_are_read;
 
-/// The report of every run is read back, with the configuration of the run, and the events that are read keep the laws of events. The
-/// numbers in the events of the run have to have 32 bits; `numbers_fit` of `pct_event_bounds` says it of events that are stored.
+/// The report of every run is read back, with the configuration of the run, as many events as the run has, and an event line for each; and
+/// the events that are read keep the laws of events. The numbers in the events of the run have to have 32 bits; `numbers_fit` of
+/// `pct_event_bounds` says it of events that are stored.
 pub fn reports_of_runs_are_lawful()
     ensures { ReportsOfRunsAreLawful }
 {
