@@ -8,9 +8,9 @@ use Rattle.pct_model.specs.EventTexts.{EventNames}
 use Rattle.pct_model.specs.Report.{report_of}
 use Rattle.pct_model.specs.Run.{Run, run}
 use Rattle.pct_name_numbers.specs.EventReading.{events_of, no_names}
+use Rattle.pct_report_reader.specs.EventWords.{event_words_in}
 use Rattle.pct_report_reader.specs.Reading.{event_lines, report_in, span_of}
 use Rattle.pct_event_laws.specs.EventLaws.{EventLaws}
-use Rattle.pct_report_laws.specs.ReportsRead.{event_words_in}
 
 -- the text is read as a report with this configuration and with so many events, the oldest first, each in a line, and they keep the laws
 pub record IsLawfulReport (config : Config) (count : ℕ) (text : List ℕ) : Type 0 where

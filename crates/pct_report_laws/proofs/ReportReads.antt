@@ -7,9 +7,10 @@ use Rattle.pct_schedule.specs.Schedules.{IsSchedule}
 use Rattle.pct_schedule_laws.proofs.PlainLines.{event_line_plain, title_line_plain, verdict_line_plain}
 use Rattle.pct_schedule_laws.proofs.ReadBack.{line_again, line_unchanged}
 use Rattle.pct_report_reader.specs.declared.fault.ReportWhy.TheVariants as why
+use Rattle.pct_report_reader.specs.EventWords.{event_words_in}
 use Rattle.pct_report_reader.specs.Reading.{Read, ReadBody, begins_verdict, body_from, body_in, body_of, config_with, event_lines, event_lines_after_title, event_lines_from, is_event, is_verdict, report_in, schedule_after, span_of, with_lines}
 use Rattle.pct_event_lines.proofs.EventsAgain.{HasText}
-use Rattle.pct_report_laws.specs.ReportsRead.{IsReadAs, event_words_in}
+use Rattle.pct_report_laws.specs.ReportsRead.{IsReadAs}
 use Rattle.pct_report_laws.proofs.EventLineReads.{event_begins, event_bytes, event_is_event, event_words_again}
 use Rattle.pct_report_laws.proofs.OtherLineReads.{schedule_read, title_again, verdict_begins, verdict_is_verdict}
 

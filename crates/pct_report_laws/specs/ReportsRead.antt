@@ -7,16 +7,12 @@ use Rattle.pct_model.specs.declared.script.Script.{Script}
 use Rattle.pct_model.specs.declared.stop.Verdict.{Verdict}
 use Rattle.pct_model.specs.EventTexts.{event_names}
 use Rattle.pct_model.specs.Keywords.{text_of}
-use Rattle.pct_model.specs.Lines.{words_of}
 use Rattle.pct_model.specs.Report.{event_line, report_lines}
 use Rattle.pct_schedule.specs.Schedules.{IsSchedule}
+use Rattle.pct_report_reader.specs.EventWords.{event_words_in}
 use Rattle.pct_report_reader.specs.Reading.{event_lines, report_in, span_of}
 use Rattle.pct_event_bounds.specs.EventBounds.{EventNamesItems}
 use Rattle.pct_event_bounds.specs.EventNumbers.{EventNumbersFit}
-
--- the words of each event line of a report
-abbrev pub event_words_in : List ℕ → List (List (List ℕ))
-event_words_in text = map (λ line. words_of line.1) (event_lines text)
 
 -- the text is read as a report with this configuration, and its event lines are those of these events, the oldest first
 pub record IsReadAs (script : Script) (config : Config) (events : List Event) (text : List ℕ) : Type 0 where
