@@ -1,0 +1,3 @@
+pub mod ScriptNames
+pub mod NamedItems
+pub mod NamedByRuns
