@@ -1,0 +1,4 @@
+pub mod Numbers
+pub mod EventAgain
+pub mod EventsAgain
+pub mod DifferentNames

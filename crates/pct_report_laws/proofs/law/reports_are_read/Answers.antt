@@ -1,0 +1,6 @@
+-- The answer for `reports_are_read`.
+use Rattle.pct_report_laws.proofs.ReportReads.{report_is_read}
+use Rattle.pct_report_laws.proofs.law.reports_are_read.Goals as goal
+
+pub returns : goal.returns
+returns c = λ script config events verdict entries is texts. report_is_read script config events verdict entries is texts
