@@ -1,8 +1,12 @@
 -- The numbers in events, other than the indexes of items: each has 32 bits.
-use Rattle.std.specs.Prelude.{ℕ, ◌≤◌}
+use Rattle.std.specs.Prelude.{◌≡◌, ℕ, ◌≤◌, List, Some, All}
 use Rattle.pct_model.specs.declared.event.Event.{Event}
 use Rattle.pct_model.specs.declared.event.What.{What}
 use Rattle.pct_model.specs.declared.event.What.TheVariants as what
+use Rattle.pct_model.specs.declared.schedule.Config.{Config}
+use Rattle.pct_model.specs.declared.schedule.Entry.{Entry}
+use Rattle.pct_model.specs.declared.script.Script.{Script}
+use Rattle.pct_model.specs.Run.{Run, run}
 
 -- a number of 32 bits
 abbrev pub Fits : ℕ → Type 0
@@ -41,3 +45,7 @@ pub record EventNumbersFit (e : Event) : Type 0 where
   pub pid : Fits e.pid
   pub tid : Fits e.tid
   pub what : NumbersFit e.what
+
+-- the events of every run are such: the budget of a run limits its ids
+abbrev pub NumbersOfRunsFit : Type 0
+NumbersOfRunsFit = (script : Script) (config : Config) (entries : List Entry) (r : Run) → run script config entries ≡ Some r → All EventNumbersFit r.events

@@ -3,7 +3,5 @@
 #![tactic(auto)]
 
 mod law;
-mod numbers;
 
-pub use law::{runs_name_items, scripts_have_names};
-pub use numbers::numbers_fit;
+pub use law::{numbers_of_runs_fit, runs_name_items, scripts_have_names};
