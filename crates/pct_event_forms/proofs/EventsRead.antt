@@ -1,14 +1,14 @@
 -- Words have the form of an event exactly if they are read as an event.
 use Rattle.pct_names.proofs.Names.{◌≡◌, ℕ, Bool, true, false, cond, not, ◌&&◌, ◌||◌, ◌>>=◌, List, [], ◌∷◌, ◌++◌, Option, Some, None}
-use Rattle.pct_names.proofs.Names.{Keyword, What, all_different, and_parts, ap, ap₂, bytes_eq, find, flat_map, is_some, keyword_text, list_any, list_any-append, map, not-true}
-use Rattle.pct_names.proofs.Names.{number_of, option_map, or_left, or_right, refl, split_once, subst, sym, ◌∙◌}
+use Rattle.pct_names.proofs.Names.{Keyword, What, all_different, and_parts, ap, ap₂, bytes_eq, find, is_some, keyword_text, list_any, list_any-append, map, not-true}
+use Rattle.pct_names.proofs.Names.{number_of, option_map, refl, split_once, sym, ◌∙◌}
 use Rattle.pct_model.specs.declared.event.What.TheVariants as what
 use Rattle.pct_model.specs.declared.keyword.Keyword.TheVariants as keyword
 use Rattle.pct_model.specs.declared.line_kind.SymbolKind.TheVariants as symbol
 use Rattle.pct_model.specs.EventTexts.{EventNames}
-use Rattle.pct_model.proofs.Bytes.{same_bytes, bytes_eq-refl}
-use Rattle.pct_name_numbers.specs.EventReading.{Reading, caller_of, cond_variable, ending, event_keyword, event_keywords, event_of, fields_of, flag, function, mutex}
-use Rattle.pct_name_numbers.specs.EventReading.{not_zero, number, numbered, once_control, once_event, once_what, one, plain, point_index, semaphore, stop_in, stop_of, thread_of, two, what_of}
+use Rattle.pct_model.proofs.Bytes.{same_bytes}
+use Rattle.pct_name_numbers.specs.EventReading.{caller_of, cond_variable, ending, event_keyword, event_keywords, event_of, fields_of, flag, function, mutex}
+use Rattle.pct_name_numbers.specs.EventReading.{not_zero, number, once_control, once_event, one, plain, point_index, semaphore, stop_in, stop_of, thread_of, two, what_of}
 use Rattle.pct_report_reader.specs.declared.text.WordKind.{WordKind}
 use Rattle.pct_report_reader.specs.declared.text.WordKind.TheVariants as kind
 use Rattle.pct_report_reader.specs.Reading.{are_positive, is_event_of_words, is_thread}

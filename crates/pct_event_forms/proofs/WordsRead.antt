@@ -1,9 +1,9 @@
 -- A word has a kind exactly if it is read as a field of that kind; so do as many words as kinds.
 use Rattle.std.proofs.Common.{lt-ltb, ne_eqb}
-use Rattle.pct_names.proofs.Names.{arith, ◌≡◌, ℕ, zero, suc, Bool, true, false, cond, ◌&&◌, ◌||◌, ◌>>=◌, List, [], ◌∷◌, ◌++◌, length, get_or, Option, Some, None}
-use Rattle.pct_names.proofs.Names.{Keyword, Point, Row, SymbolKind, What, Why, Optional, NoWait}
+use Rattle.pct_names.proofs.Names.{arith, ◌≡◌, ℕ, zero, suc, Bool, true, false, cond, ◌&&◌, ◌||◌, ◌>>=◌, List, [], ◌∷◌, Option, Some, None}
+use Rattle.pct_names.proofs.Names.{Keyword, Point, Row, SymbolKind, What, Optional, NoWait}
 use Rattle.pct_names.proofs.Names.{ap, ap₂, bytes_eq, caller_name, find, index_among, is_name, is_some, keyword_text, list_any, nat_eq, number_of, option_and_then, option_map, point_at, point_of, points}
-use Rattle.pct_names.proofs.Names.{position, position-Some, refl, slice_get, slice_get-get_or, sym, ◌∙◌}
+use Rattle.pct_names.proofs.Names.{position, position-Some, refl, slice_get-get_or, sym, ◌∙◌}
 use Rattle.pct_model.specs.EventTexts.{EventNames}
 use Rattle.pct_model.proofs.Bytes.{same_bytes, bytes_eq-refl}
 use Rattle.pct_name_numbers.specs.EventReading.{Field, caller_of, callers, flag, four, not_zero, numbered, one, plain, point_index, stop_of, stops, three, two}

@@ -1,8 +1,8 @@
 -- The words of an event are read as the event, under the numbers of its names.
 use Rattle.std.proofs.Common.{ne_eqb}
-use Rattle.pct_names.proofs.Names.{◌≡◌, ℕ, ◌+◌, ◌<◌, Bool, true, false, List, [], ◌∷◌, length, Option, Some, None, Caller, What, Why, Row, Keyword}
-use Rattle.pct_names.proofs.Names.{ap, arith, bytes_eq, caller_name, decimal, event_words, get_or, keyword_text, nat_eq, option_and_then, option_map, point_at, point_name}
-use Rattle.pct_names.proofs.Names.{point_of, points, position, refl, same_Some, slice_get, slice_get-get_or, split_once, stop_words, subst, sym, syntax_of, thread_text, ◌∙◌}
+use Rattle.pct_names.proofs.Names.{◌≡◌, ℕ, ◌<◌, true, false, [], length, Option, Some, None, Caller, What, Why, Row}
+use Rattle.pct_names.proofs.Names.{ap, arith, bytes_eq, caller_name, decimal, event_words, keyword_text, nat_eq, option_and_then, option_map, point_at, point_name}
+use Rattle.pct_names.proofs.Names.{point_of, points, position, refl, same_Some, slice_get, slice_get-get_or, stop_words, syntax_of, thread_text, ◌∙◌}
 use Rattle.pct_names.proofs.Names.{Point, Required, NoWait}
 use Rattle.pct_model.specs.declared.event.Caller.TheVariants as caller
 use Rattle.pct_model.specs.declared.event.What.TheVariants as what
@@ -13,8 +13,10 @@ use Rattle.pct_text.proofs.SplitOnce.{split_again}
 use Rattle.pct_cancel.proofs.Names.{name_finds_point}
 use Rattle.pct_name_numbers.specs.EventReading.{caller_of, event_keyword, fields_of, point_index, stop_of, thread_of, what_of}
 use Rattle.pct_event_laws.specs.Renamed.{renamed}
-use Rattle.pct_event_lines.specs.ReadBack.{naming, after, FitsPositive, IsPoint, IsText}
-use Rattle.pct_event_lines.proofs.Numbers.{Keeps, number-with}
+use Rattle.pct_event_bounds.specs.EventBounds.{HasNames, IsPoint, NamesItems}
+use Rattle.pct_event_bounds.specs.EventNumbers.{Fits, NumbersFit}
+use Rattle.pct_event_lines.proofs.NamesRead.{naming, after}
+use Rattle.pct_event_lines.proofs.Numbers.{Keeps, numbered_again}
 
 -- the names of each kind keep their numbers among more names
 pub record KeepsAll (names more : EventNames) : Type 0 where
@@ -62,78 +64,79 @@ point_again k within =
 
 -- ---- threads
 
-pub thread_again : (pid tid : ℕ) → FitsPositive pid → FitsPositive tid → thread_of (thread_text pid tid) ≡ Some (pid, tid)
+pub thread_again : (pid tid : ℕ) → Fits pid → 0 < pid → Fits tid → 0 < tid → thread_of (thread_text pid tid) ≡ Some (pid, tid)
 unfolding thread_of thread_text
-thread_again pid tid first second =
-    rw (split_again 46 (decimal pid) (decimal tid) (decimal_lacks 46 pid refl), number_again pid first.0, nonzero pid first.1, number_again tid second.0, nonzero tid second.1) refl
+thread_again pid tid fits some other_fits other_some =
+    rw (split_again 46 (decimal pid) (decimal tid) (decimal_lacks 46 pid refl), number_again pid fits, nonzero pid some, number_again tid other_fits, nonzero tid other_some) refl
 
 -- ---- events
 
-module _ (s n more : EventNames) where
-  stop_again : (w : Why) → what_of n (stop_words w) ≡ Some (n, what.Stopped w)
-  unfolding what_of event_keyword fields_of keyword_text stop_words stop_of
-  stop_again why.ForkChildCall = refl
-  stop_again why.AsyncCall = refl
-  stop_again why.EnableInHandler = refl
-  stop_again why.ExitInEnding = refl
-  stop_again why.ThreadId = refl
-  stop_again why.JoinSelf = refl
-  stop_again why.NotJoinable = refl
-  stop_again why.JoinTwice = refl
-  stop_again why.DetachJoined = refl
-  stop_again why.KeyId = refl
-  stop_again why.NotOwner = refl
-  stop_again why.CondTwoMutexes = refl
-  stop_again why.ExitTwice = refl
-  stop_again why.ForkInEnding = refl
-  stop_again why.StackFull = refl
-  stop_again why.CleanupFull = refl
+stop_again : (n : EventNames) (w : Why) → what_of n (stop_words w) ≡ Some (n, what.Stopped w)
+unfolding what_of event_keyword fields_of keyword_text stop_words stop_of
+stop_again n why.ForkChildCall = refl
+stop_again n why.AsyncCall = refl
+stop_again n why.EnableInHandler = refl
+stop_again n why.ExitInEnding = refl
+stop_again n why.ThreadId = refl
+stop_again n why.JoinSelf = refl
+stop_again n why.NotJoinable = refl
+stop_again n why.JoinTwice = refl
+stop_again n why.DetachJoined = refl
+stop_again n why.KeyId = refl
+stop_again n why.NotOwner = refl
+stop_again n why.CondTwoMutexes = refl
+stop_again n why.ExitTwice = refl
+stop_again n why.ForkInEnding = refl
+stop_again n why.StackFull = refl
+stop_again n why.CleanupFull = refl
 
-  pub event_again : (w : What) → IsText s w → KeepsAll (after s n w) more → what_of n (event_words s w) ≡ Some (after s n w, renamed (naming s more) w)
+-- s are the names of a script, n those that were read before, and more those that were read after the event or later
+module _ (s n more : EventNames) (has : HasNames s) where
+  pub event_again : (w : What) → NamesItems s w → NumbersFit w → KeepsAll (after s n w) more → what_of n (event_words s w) ≡ Some (after s n w, renamed (naming s more) w)
   unfolding what_of event_keyword fields_of keyword_text event_words
-  event_again (what.Emit v) is keeps = rw (number_again v is) refl
-  event_again (what.Created id true) is keeps = rw (number_again id is.0, nonzero id is.1) refl
-  event_again (what.Created id false) is keeps = rw (number_again id is.0, nonzero id is.1) refl
-  event_again (what.Answer call v) is keeps = rw (caller_again call, number_again v is) refl
-  event_again (what.Pushed f a) is keeps = rw (is.0, number-with s.functions n.functions more.functions f is.0 keeps.functions, number_again a is.1) refl
-  event_again (what.Popped f a true) is keeps = rw (is.0, number-with s.functions n.functions more.functions f is.0 keeps.functions, number_again a is.1) refl
-  event_again (what.Popped f a false) is keeps = rw (is.0, number-with s.functions n.functions more.functions f is.0 keeps.functions, number_again a is.1) refl
-  event_again (what.Request v) is keeps = rw (number_again v is) refl
-  event_again (what.Detached v) is keeps = rw (number_again v is) refl
-  event_again (what.PassBegun v) is keeps = rw (number_again v is) refl
-  event_again (what.Leftover v) is keeps = rw (number_again v is) refl
-  event_again (what.EndedWith v) is keeps = rw (number_again v is) refl
-  event_again (what.KeyMade v) is keeps = rw (number_again v is) refl
-  event_again (what.KeyGone v) is keeps = rw (number_again v is) refl
-  event_again (what.EndingExit v) is keeps = rw (number_again v is) refl
-  event_again (what.ExitBegun v) is keeps = rw (number_again v is) refl
-  event_again (what.ProcessEnded v) is keeps = rw (number_again v is) refl
-  event_again (what.StateSet true) is keeps = refl
-  event_again (what.StateSet false) is keeps = refl
-  event_again (what.ModeSet true) is keeps = refl
-  event_again (what.ModeSet false) is keeps = refl
-  event_again (what.Called point) is keeps = rw (point_again point is) refl
-  event_again (what.Done point) is keeps = rw (point_again point is) refl
-  event_again (what.Joined id v) is keeps = rw (number_again id is.0, number_again v is.1) refl
-  event_again (what.Reaped id v) is keeps = rw (number_again id is.0, number_again v is.1) refl
-  event_again what.EndingCanceled is keeps = refl
-  event_again (what.EndingInWait c m) is keeps = rw (is.0, is.1, number-with s.conds n.conds more.conds c is.0 keeps.conds, number-with s.mutexes n.mutexes more.mutexes m is.1 keeps.mutexes) refl
-  event_again (what.HandlerRun f a) is keeps = rw (is.0, number-with s.functions n.functions more.functions f is.0 keeps.functions, number_again a is.1) refl
-  event_again (what.DtorRun pass key f v) is keeps = rw (number_again pass is.0, number_again key is.1, is.2, number-with s.functions n.functions more.functions f is.2 keeps.functions, number_again v is.3) refl
-  event_again (what.Acquired m) is keeps = rw (is, number-with s.mutexes n.mutexes more.mutexes m is keeps.mutexes) refl
-  event_again (what.Released m) is keeps = rw (is, number-with s.mutexes n.mutexes more.mutexes m is keeps.mutexes) refl
-  event_again (what.Signalled c v) is keeps = rw (is.0, number-with s.conds n.conds more.conds c is.0 keeps.conds, number_again v is.1) refl
-  event_again (what.BroadcastTo c v) is keeps = rw (is.0, number-with s.conds n.conds more.conds c is.0 keeps.conds, number_again v is.1) refl
-  event_again (what.HandedOn c v) is keeps = rw (is.0, number-with s.conds n.conds more.conds c is.0 keeps.conds, number_again v is.1) refl
-  event_again (what.WaitCanceled c) is keeps = rw (is, number-with s.conds n.conds more.conds c is keeps.conds) refl
-  event_again (what.WaitExpired c) is keeps = rw (is, number-with s.conds n.conds more.conds c is keeps.conds) refl
-  event_again (what.Taken k) is keeps = rw (is, number-with s.sems n.sems more.sems k is keeps.sems) refl
-  event_again (what.Posted k) is keeps = rw (is, number-with s.sems n.sems more.sems k is keeps.sems) refl
-  event_again (what.OnceCalled o) is keeps = rw (is, number-with s.onces n.onces more.onces o is keeps.onces) refl
-  event_again (what.OnceDone o) is keeps = rw (is, number-with s.onces n.onces more.onces o is keeps.onces) refl
-  event_again (what.Forked pid) is keeps = rw (number_again pid is.0, nonzero pid is.1) refl
-  event_again (what.PrepareRun f) is keeps = rw (is, number-with s.functions n.functions more.functions f is keeps.functions) refl
-  event_again (what.ParentRun f) is keeps = rw (is, number-with s.functions n.functions more.functions f is keeps.functions) refl
-  event_again (what.ChildRun f) is keeps = rw (is, number-with s.functions n.functions more.functions f is keeps.functions) refl
-  event_again (what.ExitRun f) is keeps = rw (is, number-with s.functions n.functions more.functions f is keeps.functions) refl
-  event_again (what.Stopped w) is keeps = stop_again w
+  event_again (what.Emit v) items fit keeps = rw (number_again v fit) refl
+  event_again (what.Created id true) items fit keeps = rw (number_again id fit, nonzero id items) refl
+  event_again (what.Created id false) items fit keeps = rw (number_again id fit, nonzero id items) refl
+  event_again (what.Answer call k) items fit keeps = rw (caller_again call, number_again k fit) refl
+  event_again (what.Pushed f a) items fit keeps = rw (numbered_again s.functions n.functions more.functions f has.functions items keeps.functions, number_again a fit) refl
+  event_again (what.Popped f a true) items fit keeps = rw (numbered_again s.functions n.functions more.functions f has.functions items keeps.functions, number_again a fit) refl
+  event_again (what.Popped f a false) items fit keeps = rw (numbered_again s.functions n.functions more.functions f has.functions items keeps.functions, number_again a fit) refl
+  event_again (what.Request id) items fit keeps = rw (number_again id fit) refl
+  event_again (what.Detached id) items fit keeps = rw (number_again id fit) refl
+  event_again (what.StateSet true) items fit keeps = refl
+  event_again (what.StateSet false) items fit keeps = refl
+  event_again (what.ModeSet true) items fit keeps = refl
+  event_again (what.ModeSet false) items fit keeps = refl
+  event_again (what.Called point) items fit keeps = rw (point_again point items) refl
+  event_again (what.Done point) items fit keeps = rw (point_again point items) refl
+  event_again (what.Joined id v) items fit keeps = rw (number_again id fit.0, number_again v fit.1) refl
+  event_again (what.EndingExit v) items fit keeps = rw (number_again v fit) refl
+  event_again what.EndingCanceled items fit keeps = refl
+  event_again (what.EndingInWait c m) items fit keeps = rw (numbered_again s.conds n.conds more.conds c has.conds items.0 keeps.conds, numbered_again s.mutexes n.mutexes more.mutexes m has.mutexes items.1 keeps.mutexes) refl
+  event_again (what.HandlerRun f a) items fit keeps = rw (numbered_again s.functions n.functions more.functions f has.functions items keeps.functions, number_again a fit) refl
+  event_again (what.PassBegun k) items fit keeps = rw (number_again k fit) refl
+  event_again (what.DtorRun pass key f v) items fit keeps = rw (number_again pass fit.0, number_again key fit.1, numbered_again s.functions n.functions more.functions f has.functions items keeps.functions, number_again v fit.2) refl
+  event_again (what.Leftover k) items fit keeps = rw (number_again k fit) refl
+  event_again (what.EndedWith v) items fit keeps = rw (number_again v fit) refl
+  event_again (what.KeyMade k) items fit keeps = rw (number_again k fit) refl
+  event_again (what.KeyGone k) items fit keeps = rw (number_again k fit) refl
+  event_again (what.Acquired m) items fit keeps = rw (numbered_again s.mutexes n.mutexes more.mutexes m has.mutexes items keeps.mutexes) refl
+  event_again (what.Released m) items fit keeps = rw (numbered_again s.mutexes n.mutexes more.mutexes m has.mutexes items keeps.mutexes) refl
+  event_again (what.Signalled c id) items fit keeps = rw (numbered_again s.conds n.conds more.conds c has.conds items keeps.conds, number_again id fit) refl
+  event_again (what.BroadcastTo c count) items fit keeps = rw (numbered_again s.conds n.conds more.conds c has.conds items keeps.conds, number_again count fit) refl
+  event_again (what.WaitCanceled c) items fit keeps = rw (numbered_again s.conds n.conds more.conds c has.conds items keeps.conds) refl
+  event_again (what.WaitExpired c) items fit keeps = rw (numbered_again s.conds n.conds more.conds c has.conds items keeps.conds) refl
+  event_again (what.HandedOn c id) items fit keeps = rw (numbered_again s.conds n.conds more.conds c has.conds items keeps.conds, number_again id fit) refl
+  event_again (what.Taken k) items fit keeps = rw (numbered_again s.sems n.sems more.sems k has.sems items keeps.sems) refl
+  event_again (what.Posted k) items fit keeps = rw (numbered_again s.sems n.sems more.sems k has.sems items keeps.sems) refl
+  event_again (what.OnceCalled o) items fit keeps = rw (numbered_again s.onces n.onces more.onces o has.onces items keeps.onces) refl
+  event_again (what.OnceDone o) items fit keeps = rw (numbered_again s.onces n.onces more.onces o has.onces items keeps.onces) refl
+  event_again (what.Forked pid) items fit keeps = rw (number_again pid fit, nonzero pid items) refl
+  event_again (what.PrepareRun f) items fit keeps = rw (numbered_again s.functions n.functions more.functions f has.functions items keeps.functions) refl
+  event_again (what.ParentRun f) items fit keeps = rw (numbered_again s.functions n.functions more.functions f has.functions items keeps.functions) refl
+  event_again (what.ChildRun f) items fit keeps = rw (numbered_again s.functions n.functions more.functions f has.functions items keeps.functions) refl
+  event_again (what.ExitBegun v) items fit keeps = rw (number_again v fit) refl
+  event_again (what.ExitRun f) items fit keeps = rw (numbered_again s.functions n.functions more.functions f has.functions items keeps.functions) refl
+  event_again (what.ProcessEnded k) items fit keeps = rw (number_again k fit) refl
+  event_again (what.Reaped pid k) items fit keeps = rw (number_again pid fit.0, number_again k fit.1) refl
+  event_again (what.Stopped w) items fit keeps = stop_again n w

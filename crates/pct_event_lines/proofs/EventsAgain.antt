@@ -1,12 +1,14 @@
 -- The lines of events are read as the events, under the numbers of their names.
-use Rattle.pct_names.proofs.Names.{◌≡◌, ℕ, List, [], ◌∷◌, map, Some, All, All-head, All-tail, Event, Script, What}
-use Rattle.pct_names.proofs.Names.{all_different, event_line, event_names, event_words, refl, true}
+use Rattle.pct_names.proofs.Names.{◌≡◌, ℕ, List, [], ◌∷◌, map, Some, All, All-cons, All-head, All-nil, All-tail, Event, Script, What}
+use Rattle.pct_names.proofs.Names.{event_line, event_names, refl}
 use Rattle.pct_model.specs.declared.event.What.TheVariants as what
 use Rattle.pct_model.specs.EventTexts.{EventNames}
 use Rattle.pct_name_numbers.specs.EventReading.{event_of, events_of}
-use Rattle.pct_name_numbers.specs.Numbering.{names_with}
 use Rattle.pct_event_laws.specs.Renamed.{renamed_event}
-use Rattle.pct_event_lines.specs.ReadBack.{naming, after, after_all, with_function, with_mutex, with_cond, with_sem, with_once, IsEventText}
+use Rattle.pct_event_bounds.specs.EventBounds.{EventNamesItems}
+use Rattle.pct_event_bounds.specs.EventNumbers.{EventNumbersFit}
+use Rattle.pct_event_bounds.proofs.ScriptNames.{names_of_scripts}
+use Rattle.pct_event_lines.proofs.NamesRead.{naming, after, after_all, with_function, with_mutex, with_cond, with_sem, with_once}
 use Rattle.pct_event_lines.proofs.Numbers.{keeps-refl, keeps-trans, keeps-with}
 use Rattle.pct_event_lines.proofs.EventAgain.{KeepsAll, event_again, thread_again}
 
@@ -72,17 +74,30 @@ all-keeps s n [] = all-refl n
 all-keeps s n (e ∷ events) =
     all-trans n (after s n e.what) (after_all s (after s n e.what) events) (after-keeps s n e.what) (all-keeps s (after s n e.what) events)
 
-pub line_again : (script : Script) (n more : EventNames) (e : Event) → IsEventText (event_names script) e → KeepsAll (after (event_names script) n e.what) more
+-- a script's event whose line is read back
+abbrev pub HasText : Script → Event → Type 0
+HasText script e = EventNamesItems (event_names script) e × EventNumbersFit e
+
+pub line_again : (script : Script) (n more : EventNames) (e : Event) → HasText script e → KeepsAll (after (event_names script) n e.what) more
     → event_of n (event_line script e) ≡ Some (after (event_names script) n e.what, renamed_event (naming (event_names script) more) e)
 unfolding event_line
-line_again script n more e text keeps =
-    rw (thread_again e.pid e.tid text.pid text.tid, event_again (event_names script) n more e.what text.what keeps) refl
+line_again script n more e (items, fit) keeps =
+    rw (thread_again e.pid e.tid fit.pid items.pid fit.tid items.tid, event_again (event_names script) n more (names_of_scripts script) e.what items.what fit.what keeps) refl
 
-pub events_again : (script : Script) (n more : EventNames) (events : List Event) → All (IsEventText (event_names script)) events → KeepsAll (after_all (event_names script) n events) more
+pub events_again : (script : Script) (n more : EventNames) (events : List Event) → All (HasText script) events → KeepsAll (after_all (event_names script) n events) more
     → events_of n (map (event_line script) events) ≡ Some (after_all (event_names script) n events, map (renamed_event (naming (event_names script) more)) events)
 events_again script n more [] texts keeps = refl
 events_again script n more (e ∷ events) texts keeps =
     let s = event_names script in
     let next = after s n e.what in
-    rw (line_again script n more e (All-head (IsEventText s) e events texts) (all-trans next (after_all s next events) more (all-keeps s next events) keeps),
-        events_again script next more events (All-tail (IsEventText s) e events texts) keeps) refl
+    rw (
+      line_again script n more e (All-head (HasText script) e events texts) (all-trans next (after_all s next events) more (all-keeps s next events) keeps),
+      events_again script next more events (All-tail (HasText script) e events texts) keeps,
+    ) refl
+
+pub have_texts : (script : Script) (events : List Event) → All (EventNamesItems (event_names script)) events → All EventNumbersFit events → All (HasText script) events
+have_texts script [] items fit = All-nil (HasText script)
+have_texts script (e ∷ events) items fit =
+    let names = event_names script in
+    All-cons (HasText script) e events (All-head (EventNamesItems names) e events items, All-head EventNumbersFit e events fit)
+    (have_texts script events (All-tail (EventNamesItems names) e events items) (All-tail EventNumbersFit e events fit))

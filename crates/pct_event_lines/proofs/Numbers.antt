@@ -1,13 +1,15 @@
 -- Numbers of names: a name that was read keeps its number, and different names have different numbers.
 use Rattle.std.proofs.Common.{eq-eqb, ne_eqb, true≢false, ⊎_elim}
 use Rattle.pct_names.proofs.Names.{◌≡◌, ℕ, zero, suc, ◌+◌, ◌<◌, Bool, true, false, cond, not, ◌||◌, List, [], ◌∷◌, ◌++◌, length, get_or, Option, Some, None}
-use Rattle.pct_names.proofs.Names.{all_different, and_parts, ap, arith, bytes_eq, eqb_tells, index_among, is_name, is_some, list_any, name_at, nat_eq, not-true}
-use Rattle.pct_names.proofs.Names.{option_and_then, position-Some, position_from, position_from-zero, refl, same_Some, slice_get, subst, sym, unwrap_or, ◌∙◌}
+use Rattle.pct_names.proofs.Names.{all_different, and_parts, ap, arith, bytes_eq, eqb_tells, index_among, is_name, is_some, list_all, list_any, name_at, nat_eq, not-true}
+use Rattle.pct_names.proofs.Names.{option_and_then, option_map, position-Some, position_from, position_from-zero, refl, same_Some, slice_get, sym, unwrap_or, ◌∙◌}
 use Rattle.pct_model.proofs.Bytes.{same_bytes, bytes_eq-refl}
+use Rattle.pct_name_numbers.specs.EventReading.{numbered}
 use Rattle.pct_name_numbers.specs.Numbering.{names_with}
 use Rattle.pct_name_numbers.proofs.IndexLemmas.{index_with}
 use Rattle.pct_event_laws.specs.Renamed.{IsInjective}
-use Rattle.pct_event_lines.specs.ReadBack.{number_of_index, IsNamed}
+use Rattle.pct_event_bounds.specs.EventBounds.{AreNames, IsIndexOf}
+use Rattle.pct_event_lines.proofs.NamesRead.{number_of_index}
 
 -- ---- names that were read keep their numbers
 
@@ -43,26 +45,37 @@ keeps-with w names = keeps_either (is_some (index_among names w)) names w
 
 -- ---- the number of a name that is read
 
--- the name at an index is the item there, since it is not the empty name
-named_item : (item : Option (List ℕ)) → is_name (unwrap_or item []) ≡ true → item ≡ Some (unwrap_or item [])
-unfolding is_name
-named_item None named = absurd (true≢false (sym named))
-named_item (Some name) named = refl
-
-item_at : (names : List (List ℕ)) (k : ℕ) → IsNamed names k → slice_get names k ≡ Some (name_at names k)
+item_at : (names : List (List ℕ)) (k : ℕ) → IsIndexOf names k → slice_get names k ≡ Some (name_at names k)
 unfolding name_at
-item_at names k named = named_item (slice_get names k) named
+item_at [] k within = absurd (omega (arith, within))
+item_at (name ∷ names) zero within = refl
+item_at (name ∷ names) (suc k) within = item_at names k (omega (arith, within))
 
--- the index of a name among the names that were read with it is its number among more names
-pub number-with : (names read more : List (List ℕ)) (k : ℕ) → IsNamed names k → Keeps (names_with (name_at names k) read) more
-    → index_among (names_with (name_at names k) read) (name_at names k) ≡ Some (number_of_index names more k)
-number-with names read more k named keeps =
-    let w = name_at names k in
-    let found = index_with read w in
-    let number : number_of_index names more k ≡ found.0 =
-    ap (λ (item : Option (List ℕ)). unwrap_or (option_and_then (λ name. index_among more name) item) (k + length more)) (item_at names k named)
-    ∙ ap (λ (index : Option ℕ). unwrap_or index (k + length more)) (keeps w found.0 found.1)
-    in found.1 ∙ ap (λ (i : ℕ). Some i) (sym number)
+name_at_is_name : (names : List (List ℕ)) (k : ℕ) → list_all is_name names ≡ true → IsIndexOf names k → is_name (name_at names k) ≡ true
+unfolding name_at
+name_at_is_name [] k valid within = absurd (omega (arith, within))
+name_at_is_name (name ∷ names) zero valid within = (and_parts (is_name name) (list_all is_name names) valid).0
+name_at_is_name (name ∷ names) (suc k) valid within = name_at_is_name names k (and_parts (is_name name) (list_all is_name names) valid).1 (omega (arith, within))
+
+-- a script's name that is read has its number among the names that were read and more names
+module _ (names read more : List (List ℕ)) (k : ℕ) (are : AreNames names) (within : IsIndexOf names k) (keeps : Keeps (names_with (name_at names k) read) more) where
+  abbrev word : List ℕ
+  word = name_at names k
+
+  abbrev with_index : ℕ → List (List ℕ) × ℕ
+  with_index i = (names_with word read, i)
+
+  abbrev found : Option (List ℕ) → ℕ
+  found item = unwrap_or (option_and_then (λ name. index_among more name) item) (k + length more)
+
+  is_number : (i : ℕ) → index_among (names_with word read) word ≡ Some i → number_of_index names more k ≡ i
+  is_number i at = ap found (item_at names k within) ∙ ap (λ (index : Option ℕ). unwrap_or index (k + length more)) (keeps word i at)
+
+  pub numbered_again : numbered read word ≡ Some (names_with word read, number_of_index names more k)
+  numbered_again =
+      let index = index_with read word in
+      ap (λ (t : Bool). cond t (option_map with_index (index_among (names_with word read) word)) None) (name_at_is_name names k are.valid within)
+      ∙ ap (option_map with_index) index.1 ∙ ap (λ (i : ℕ). Some (with_index i)) (sym (is_number index.0 index.1))
 
 -- ---- different names have different numbers
 

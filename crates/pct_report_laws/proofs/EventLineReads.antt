@@ -1,10 +1,8 @@
 -- The line of an event has the form of an event, and it does not begin as a verdict.
-use Rattle.pct_names.proofs.Names.{◌≡◌, ℕ, ◌+◌, ◌<◌, ◌^◌, Bool, true, false, ◌&&◌, List, [], ◌∷◌, ◌++◌, length, map, is_some, Option, Some, All, All-head, All-tail}
+use Rattle.pct_names.proofs.Names.{◌≡◌, ℕ, ◌<◌, Bool, true, false, ◌&&◌, List, [], ◌∷◌, ◌++◌, length, is_some}
 use Rattle.pct_names.proofs.Names.{and_parts, ap, arith, codes, decimal, decimal_nonempty, Event, event_line, event_names, event_words, is_digit, join_with_byte, keyword_text, list_all, nat_eq, nat_le}
-use Rattle.pct_names.proofs.Names.{refl, Script, sym, subst, thread_text, words_of, ◌∙◌}
+use Rattle.pct_names.proofs.Names.{refl, Script, thread_text, words_of, ◌∙◌}
 use Rattle.std.proofs.Common.{ne_eqb, leb-true}
-use Rattle.pct_model.specs.declared.keyword.Keyword.TheVariants as keyword
-use Rattle.pct_model.specs.EventTexts.{EventNames}
 use Rattle.pct_model.specs.Schedule.{begins}
 use Rattle.pct_text.proofs.Numbers.{digits_of_decimal}
 use Rattle.pct_name_numbers.specs.EventReading.{Reading, no_names}
@@ -12,8 +10,9 @@ use Rattle.pct_report_reader.specs.Reading.{begins_verdict, is_event, is_event_o
 use Rattle.pct_schedule_laws.proofs.PlainLines.{event_line_plain}
 use Rattle.pct_schedule_laws.proofs.ReadBack.{words_again}
 use Rattle.pct_event_forms.proofs.EventsRead.{event_read}
-use Rattle.pct_event_lines.specs.ReadBack.{Fits, IsEventText, after}
-use Rattle.pct_event_lines.proofs.EventsAgain.{all-refl, line_again}
+use Rattle.pct_event_bounds.specs.EventNumbers.{Fits}
+use Rattle.pct_event_lines.proofs.NamesRead.{after}
+use Rattle.pct_event_lines.proofs.EventsAgain.{HasText, all-refl, line_again}
 
 -- ---- the first byte
 
@@ -52,16 +51,16 @@ no_verdict bytes digit = ap begins_verdict digit.2 ∙ begins_apart 118 digit.0 
 abbrev pub event_bytes : Script → Event → List ℕ
 event_bytes script e = join_with_byte 32 (event_line script e)
 
-pub event_begins : (script : Script) (e : Event) → IsEventText (event_names script) e → begins_verdict (event_bytes script e) ≡ false
+pub event_begins : (script : Script) (e : Event) → HasText script e → begins_verdict (event_bytes script e) ≡ false
 unfolding event_line
 event_begins script e text =
-    no_verdict (event_bytes script e) (line_first (thread_text e.pid e.tid) (event_words (event_names script) e.what) (thread_first e.pid e.tid text.pid.0))
+    no_verdict (event_bytes script e) (line_first (thread_text e.pid e.tid) (event_words (event_names script) e.what) (thread_first e.pid e.tid text.1.pid))
 
 pub event_words_again : (script : Script) (e : Event) → words_of (event_bytes script e) ≡ event_line script e
 unfolding event_line
 event_words_again script e = words_again (thread_text e.pid e.tid) (event_words (event_names script) e.what) (event_line_plain script e)
 
-pub event_is_event : (script : Script) (e : Event) → IsEventText (event_names script) e → is_event (event_bytes script e) ≡ true
+pub event_is_event : (script : Script) (e : Event) → HasText script e → is_event (event_bytes script e) ≡ true
 unfolding is_event
 event_is_event script e text =
     let names = after (event_names script) no_names e.what in

@@ -1,19 +1,18 @@
 -- The other lines of a report are read: its title, its verdict, and its schedule.
-use Rattle.pct_names.proofs.Names.{◌≡◌, ℕ, ◌+◌, cond, Err, Bool, true, false, ◌&&◌, List, [], ◌∷◌, ◌++◌, map, Some, Ok, Config, Entry, Format, Verdict, Why}
-use Rattle.pct_names.proofs.Names.{ap, codes, decimal, digits, entry_line, end_line, format_number, header_line, join_with_byte, keyword_text, length, lines_of, line_text, list_any, refl}
-use Rattle.pct_names.proofs.Names.{sched_of, schedule_lines, stop_words, strip_cr, subst, sym, text_of, title_line, verdict_line, verdict_words, words_of, ◌∙◌}
+use Rattle.pct_names.proofs.Names.{◌≡◌, ℕ, ◌+◌, cond, Err, Bool, true, ◌&&◌, List, [], ◌∷◌, ◌++◌, map, Some, Ok, Config, Entry, Format, Verdict, Why}
+use Rattle.pct_names.proofs.Names.{ap, decimal, digits, entry_line, end_line, format_number, header_line, join_with_byte, keyword_text, length, lines_of, list_any, refl}
+use Rattle.pct_names.proofs.Names.{sched_of, schedule_lines, stop_words, strip_cr, text_of, title_line, verdict_line, verdict_words, ◌∙◌}
 use Rattle.pct_model.specs.declared.keyword.Keyword.TheVariants as keyword
 use Rattle.pct_model.specs.declared.schedule.Format.TheVariants as format
 use Rattle.pct_model.specs.declared.stop.Verdict.TheVariants as verdict
 use Rattle.pct_model.specs.declared.stop.Why.TheVariants as why
-use Rattle.pct_model.specs.Schedule.{Schedule}
 use Rattle.pct_model.proofs.Bytes.{bytes_eq-refl}
 use Rattle.pct_schedule.specs.Schedules.{IsSchedule}
 use Rattle.pct_schedule.proofs.ByEntries.{by_lines}
 use Rattle.pct_schedule_laws.proofs.PlainLines.{header_line_plain, verdict_line_plain}
 use Rattle.pct_schedule_laws.proofs.ReadBack.{line_again, line_unchanged, schedule_again, words_again}
 use Rattle.pct_report_reader.specs.declared.fault.ReportWhy.TheVariants as report_why
-use Rattle.pct_report_reader.specs.Reading.{Read, begins_schedule, begins_verdict, config_after, format_of_title, is_verdict, is_verdict_of_words, schedule_after, schedule_follows}
+use Rattle.pct_report_reader.specs.Reading.{begins_schedule, begins_verdict, config_after, format_of_title, is_verdict, is_verdict_of_words, schedule_after, schedule_follows}
 use Rattle.pct_report_reader.specs.Texts.{are_words, has_form, is_stop, is_word, verdict_forms}
 
 -- ---- the title

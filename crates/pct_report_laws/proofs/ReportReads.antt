@@ -1,14 +1,14 @@
 -- A report is read.
-use Rattle.pct_names.proofs.Names.{◌≡◌, ℕ, ◌+◌, Bool, true, false, cond, List, [], ◌∷◌, ◌++◌, length, map, Err, Ok, Option, Some, All, All-head, All-tail}
-use Rattle.pct_names.proofs.Names.{ap, arith, Config, Entry, Event, event_line, event_names, Format, join_with_byte, line_text, lines_of, refl, report_lines, schedule_lines, Script, strip_cr}
-use Rattle.pct_names.proofs.Names.{subst, sym, text_of, title_line, Verdict, verdict_line, words_of, ◌∙◌}
+use Rattle.pct_names.proofs.Names.{◌≡◌, ℕ, ◌+◌, Bool, true, false, cond, List, [], ◌∷◌, ◌++◌, length, map, Err, Ok, Option, All, All-head, All-tail}
+use Rattle.pct_names.proofs.Names.{ap, arith, Config, Entry, Event, event_line, Format, join_with_byte, lines_of, refl, report_lines, schedule_lines, Script, strip_cr}
+use Rattle.pct_names.proofs.Names.{text_of, title_line, Verdict, verdict_line, words_of, ◌∙◌}
 use Rattle.std.proofs.Common.{append_assoc}
 use Rattle.pct_schedule.specs.Schedules.{IsSchedule}
 use Rattle.pct_schedule_laws.proofs.PlainLines.{event_line_plain, title_line_plain, verdict_line_plain}
 use Rattle.pct_schedule_laws.proofs.ReadBack.{line_again, line_unchanged}
 use Rattle.pct_report_reader.specs.declared.fault.ReportWhy.TheVariants as why
 use Rattle.pct_report_reader.specs.Reading.{Read, ReadBody, begins_verdict, body_from, body_in, body_of, config_with, event_lines, event_lines_after_title, event_lines_from, is_event, is_verdict, report_in, schedule_after, span_of, with_lines}
-use Rattle.pct_event_lines.specs.ReadBack.{IsEventText}
+use Rattle.pct_event_lines.proofs.EventsAgain.{HasText}
 use Rattle.pct_report_laws.specs.ReportsRead.{IsReadAs, event_words_in}
 use Rattle.pct_report_laws.proofs.EventLineReads.{event_begins, event_bytes, event_is_event, event_words_again}
 use Rattle.pct_report_laws.proofs.OtherLineReads.{schedule_read, title_again, verdict_begins, verdict_is_verdict}
@@ -45,7 +45,7 @@ module _ (script : Script) (v : Verdict) (rest : List (List (List ℕ))) where
   unfolding body_from
   body_at f n line lines = refl
 
-  body_again : (f : Format) (n : ℕ) (events : List Event) → All (IsEventText (event_names script)) events
+  body_again : (f : Format) (n : ℕ) (events : List Event) → All (HasText script) events
       → body_from f n (stripped (lines_from events)) ≡ Ok (record { format = f; number = n + length events; after = stripped after })
   body_again f n [] texts =
       ap (λ (lines : List (List ℕ)). body_from f n (stripped lines)) first_verdict
@@ -55,7 +55,7 @@ module _ (script : Script) (v : Verdict) (rest : List (List (List ℕ))) where
       ∙ ap (λ (t : Bool). body_line f n verdict_bytes (stripped after) true t (is_event verdict_bytes)) (verdict_is_verdict v)
       ∙ ap (λ (number : ℕ). Ok (record { format = f; number = number; after = stripped after })) (omega arith)
   body_again f n (e ∷ events) texts =
-      let text = All-head (IsEventText (event_names script)) e events texts in
+      let text = All-head (HasText script) e events texts in
       let line = event_bytes script e in
       let lines = stripped (lines_from events) in
       ap (λ (ls : List (List ℕ)). body_from f n (stripped ls)) (first_event e events)
@@ -63,7 +63,7 @@ module _ (script : Script) (v : Verdict) (rest : List (List (List ℕ))) where
       ∙ body_at f n line lines
       ∙ ap (λ (t : Bool). body_line f n line lines t (is_verdict line) (is_event line)) (event_begins script e text)
       ∙ ap (λ (t : Bool). body_line f n line lines false (is_verdict line) t) (event_is_event script e text)
-      ∙ body_again f (n + 1) events (All-tail (IsEventText (event_names script)) e events texts)
+      ∙ body_again f (n + 1) events (All-tail (HasText script) e events texts)
       ∙ ap (λ (number : ℕ). Ok (record { format = f; number = number; after = stripped after })) (omega arith)
 
   -- ---- event lines
@@ -79,7 +79,7 @@ module _ (script : Script) (v : Verdict) (rest : List (List (List ℕ))) where
   unfolding event_lines_from
   lines_at offset line lines = refl
 
-  words_found : (offset : ℕ) (events : List Event) → All (IsEventText (event_names script)) events → words_from (event_lines_from offset (lines_from events)) ≡ map (event_line script) events
+  words_found : (offset : ℕ) (events : List Event) → All (HasText script) events → words_from (event_lines_from offset (lines_from events)) ≡ map (event_line script) events
   words_found offset [] texts =
       let next = offset + length verdict_bytes + 1 in
       ap words_from (ap (event_lines_from offset) first_verdict ∙ lines_at offset verdict_bytes after
@@ -91,9 +91,9 @@ module _ (script : Script) (v : Verdict) (rest : List (List (List ℕ))) where
       let lines = lines_from events in
       ap words_from (ap (event_lines_from offset) (first_event e events) ∙ lines_at offset line lines
       ∙ ap (λ (l : List ℕ). event_line_at offset l next lines (begins_verdict l)) (line_unchanged (event_line script e) (event_line_plain script e))
-      ∙ ap (event_line_at offset line next lines) (event_begins script e (All-head (IsEventText (event_names script)) e events texts)))
+      ∙ ap (event_line_at offset line next lines) (event_begins script e (All-head (HasText script) e events texts)))
       ∙ ap (λ (words : List (List ℕ)). words ∷ words_from (event_lines_from next lines)) (event_words_again script e)
-      ∙ ap (λ (others : List (List (List ℕ))). event_line script e ∷ others) (words_found next events (All-tail (IsEventText (event_names script)) e events texts))
+      ∙ ap (λ (others : List (List (List ℕ))). event_line script e ∷ others) (words_found next events (All-tail (HasText script) e events texts))
 
 -- ---- reports
 
@@ -116,7 +116,7 @@ module _ (script : Script) (config : Config) (events : List Event) (v : Verdict)
       ap (λ (lines : List (List (List ℕ))). lines_of (text_of lines)) (grouped (title_line config) (map (event_line script) events) (verdict_line v) schedule)
       ∙ line_again (title_line config) (map (event_line script) events ++ (verdict_line v ∷ schedule)) (title_line_plain config)
 
-  body_is : All (IsEventText (event_names script)) events
+  body_is : All (HasText script) events
       → body_in (map strip_cr (lines_of text)) ≡ Ok (record { format = config.format; number = 2 + length events; after = map strip_cr (lines_of (text_of schedule)) })
   unfolding body_in
   body_is texts =
@@ -126,7 +126,7 @@ module _ (script : Script) (config : Config) (events : List Event) (v : Verdict)
       ∙ ap (λ (f : Option Format). body_of f rest) (title_again config)
       ∙ body_again script v schedule config.format 2 events texts
 
-  words_are : All (IsEventText (event_names script)) events → event_words_in text ≡ map (event_line script) events
+  words_are : All (HasText script) events → event_words_in text ≡ map (event_line script) events
   unfolding event_lines
   words_are texts =
       ap (λ (lines : List (List ℕ)). map (λ (line : ℕ × List ℕ). words_of line.1) (event_lines_after_title lines)) lines_again
@@ -138,7 +138,7 @@ module _ (script : Script) (config : Config) (events : List Event) (v : Verdict)
   report_from body is read =
       ap (λ (b : Read ReadBody). with_lines (event_lines text) (config_with b)) is ∙ ap (with_lines (event_lines text)) read
 
-  pub report_is_read : IsSchedule config entries → All (IsEventText (event_names script)) events → IsReadAs script config events text
+  pub report_is_read : IsSchedule config entries → All (HasText script) events → IsReadAs script config events text
   report_is_read is texts =
       let after = map strip_cr (lines_of (text_of schedule)) in
       let n = 2 + length events in

@@ -11,7 +11,8 @@ use Rattle.pct_model.specs.Lines.{words_of}
 use Rattle.pct_model.specs.Report.{event_line, report_lines}
 use Rattle.pct_schedule.specs.Schedules.{IsSchedule}
 use Rattle.pct_report_reader.specs.Reading.{event_lines, report_in, span_of}
-use Rattle.pct_event_lines.specs.ReadBack.{IsEventText}
+use Rattle.pct_event_bounds.specs.EventBounds.{EventNamesItems}
+use Rattle.pct_event_bounds.specs.EventNumbers.{EventNumbersFit}
 
 -- the words of each event line of a report
 abbrev pub event_words_in : List ℕ → List (List (List ℕ))
@@ -22,9 +23,9 @@ pub record IsReadAs (script : Script) (config : Config) (events : List Event) (t
   pub report : report_in text ≡ Ok (config, map span_of (event_lines text))
   pub words : event_words_in text ≡ map (event_line script) events
 
--- each report is read so, if its events have texts, its entries are a schedule, and whatever its verdict is
+-- so is each report of events that name items of the script, by numbers of 32 bits, if its entries are a schedule; whatever its verdict is
 abbrev pub ReportsAreRead : Type 0
 ReportsAreRead =
     (script : Script) (config : Config) (events : List Event) (verdict : Verdict) (entries : List Entry)
-    → IsSchedule config entries → All (IsEventText (event_names script)) events
+    → IsSchedule config entries → All (EventNamesItems (event_names script)) events → All EventNumbersFit events
     → IsReadAs script config events (text_of (report_lines script config events verdict entries))
