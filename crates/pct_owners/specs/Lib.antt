@@ -1,0 +1,2 @@
+pub mod OwnersIn
+pub mod Roots

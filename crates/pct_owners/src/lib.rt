@@ -1,0 +1,6 @@
+//! The owners of mutexes in each process.
+#![tactic(auto)]
+
+mod owners;
+
+pub use owners::Owners;
