@@ -10,7 +10,7 @@ use Rattle.pct_versions.specs.declared.versions.Node.{Node}
 use Rattle.pct_versions.specs.declared.versions.Versions.{Versions}
 use Rattle.pct_versions.specs.Tries.{nodes_of, value_at, IsTrie, IsVersionWith, Extends}
 use Rattle.pct_versions.proofs.TrieLemmas.{value-Extends, trie-Extends}
-use Rattle.pct_owners.specs.Roots.{root_of, owner_by, AreRoots}
+use Rattle.pct_process_maps.specs.Roots.{root_of, value_by, AreRoots}
 
 -- ---- the map with the value 0 at every key
 
@@ -38,30 +38,30 @@ trie_by : (after : List Node) (same : Bool) (changed root : ℕ) → IsTrie afte
 trie_by after true changed root there here = there
 trie_by after false changed root there here = here
 
--- the owners stay as there are more versions
+-- the values stay as there are more versions
 module _ (before after : Versions) (roots : BTreeMap ℕ ℕ) (extends : Extends (nodes_of before) (nodes_of after)) (kept : AreRoots before roots) where
   pub AreRoots-Extends : AreRoots after roots
   AreRoots-Extends q = trie-Extends (nodes_of before) (nodes_of after) 32 (root_of roots q) extends (kept q)
 
-  pub owner-Extends : (q k : ℕ) → owner_by after roots q k ≡ owner_by before roots q k
-  owner-Extends q k = value-Extends (nodes_of before) (nodes_of after) 32 (root_of roots q) k extends (kept q)
+  pub value_by-Extends : (q k : ℕ) → value_by after roots q k ≡ value_by before roots q k
+  value_by-Extends q k = value-Extends (nodes_of before) (nodes_of after) 32 (root_of roots q) k extends (kept q)
 
-  pub owner-unchanged : (now : BTreeMap ℕ ℕ) → IsUnchanged roots now → (q k : ℕ) → owner_by after now q k ≡ owner_by before roots q k
-  owner-unchanged now same q k = ap (λ entries. value_at (nodes_of after) 32 (unwrap_or (lookup (is_at (nat_cmp q)) entries) 0) k) same ∙ owner-Extends q k
+  pub value_by-unchanged : (now : BTreeMap ℕ ℕ) → IsUnchanged roots now → (q k : ℕ) → value_by after now q k ≡ value_by before roots q k
+  value_by-unchanged now same q k = ap (λ entries. value_at (nodes_of after) 32 (unwrap_or (lookup (is_at (nat_cmp q)) entries) 0) k) same ∙ value_by-Extends q k
 
   pub AreRoots-inserted : {T E : Type 0} (result : Result T E) (now : BTreeMap ℕ ℕ) (pid changed : ℕ) → OnOk result (Updates nat_cmp roots now pid (Some changed)) → OnErr result (IsUnchanged roots now) → IsTrie (nodes_of after) 32 changed → AreRoots after now
   AreRoots-inserted (Ok old) now pid changed updates same trie q = subst (IsTrie (nodes_of after) 32) (sym (root-Updates roots now pid changed q updates)) (trie_by (nodes_of after) (nat_eq pid q) changed (root_of roots q) trie (AreRoots-Extends q))
   AreRoots-inserted (Err e) now pid changed updates same trie q = subst (λ entries. IsTrie (nodes_of after) 32 (unwrap_or (lookup (is_at (nat_cmp q)) entries) 0)) (sym same) (AreRoots-Extends q)
 
-  owner_set_by : (pid q changed m k owner : ℕ) (same : Bool) → nat_eq pid q ≡ same → IsVersionWith (nodes_of before) (nodes_of after) 32 (root_of roots pid) changed m owner → k < 2 ^ 32
-      → value_at (nodes_of after) 32 (cond same changed (root_of roots q)) k ≡ cond (same && nat_eq m k) owner (owner_by before roots q k)
-  owner_set_by pid q changed m k owner true is set low = set.values k low ∙ ap (λ p. cond (nat_eq m k) owner (owner_by before roots p k)) (eqb-true pid q is)
-  owner_set_by pid q changed m k owner false is set low = owner-Extends q k
+  value_set_by : (pid q changed m k value : ℕ) (same : Bool) → nat_eq pid q ≡ same → IsVersionWith (nodes_of before) (nodes_of after) 32 (root_of roots pid) changed m value → k < 2 ^ 32
+      → value_at (nodes_of after) 32 (cond same changed (root_of roots q)) k ≡ cond (same && nat_eq m k) value (value_by before roots q k)
+  value_set_by pid q changed m k value true is set low = set.values k low ∙ ap (λ p. cond (nat_eq m k) value (value_by before roots p k)) (eqb-true pid q is)
+  value_set_by pid q changed m k value false is set low = value_by-Extends q k
 
-  pub owner-set : (now : BTreeMap ℕ ℕ) (pid changed m owner : ℕ) → Updates nat_cmp roots now pid (Some changed) → IsVersionWith (nodes_of before) (nodes_of after) 32 (root_of roots pid) changed m owner → (q k : ℕ) → k < 2 ^ 32
-      → owner_by after now q k ≡ cond (nat_eq pid q && nat_eq m k) owner (owner_by before roots q k)
-  owner-set now pid changed m owner updates set q k low =
-      ap (λ root. value_at (nodes_of after) 32 root k) (root-Updates roots now pid changed q updates) ∙ owner_set_by pid q changed m k owner (nat_eq pid q) refl set low
+  pub value_by-set : (now : BTreeMap ℕ ℕ) (pid changed m value : ℕ) → Updates nat_cmp roots now pid (Some changed) → IsVersionWith (nodes_of before) (nodes_of after) 32 (root_of roots pid) changed m value → (q k : ℕ) → k < 2 ^ 32
+      → value_by after now q k ≡ cond (nat_eq pid q && nat_eq m k) value (value_by before roots q k)
+  value_by-set now pid changed m value updates set q k low =
+      ap (λ root. value_at (nodes_of after) 32 root k) (root-Updates roots now pid changed q updates) ∙ value_set_by pid q changed m k value (nat_eq pid q) refl set low
 
 pub any_error : {T E P : Type 0} (result : Result T E) → P → OnErr result P
 any_error (Ok value) p = tt

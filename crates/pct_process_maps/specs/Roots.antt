@@ -1,4 +1,4 @@
--- The owners of mutexes by process, as versions of one map from mutexes to owners.
+-- The maps of processes as versions of one map.
 use Rattle.std.specs.Prelude.{ℕ, zero, suc, List, unwrap_or}
 use Rattle.std.specs.Ordering.{nat_cmp}
 use Rattle.std.specs.BTreeMap.{BTreeMap, get}
@@ -11,9 +11,9 @@ use Rattle.pct_versions.specs.Tries.{nodes_of, child_of, value_at, IsTrie}
 abbrev pub root_of : BTreeMap ℕ ℕ → ℕ → ℕ
 root_of roots pid = unwrap_or (get nat_cmp roots pid) 0
 
--- the owner of mutex m, a number of 32 bits, in process pid
-abbrev pub owner_by : Versions → BTreeMap ℕ ℕ → ℕ → ℕ → ℕ
-owner_by versions roots pid m = value_at (nodes_of versions) 32 (root_of roots pid) m
+-- the value at a key in the map of process pid
+abbrev pub value_by : Versions → BTreeMap ℕ ℕ → ℕ → ℕ → ℕ
+value_by versions roots pid key = value_at (nodes_of versions) 32 (root_of roots pid) key
 
 -- each process has a version of the map
 abbrev pub AreRoots : Versions → BTreeMap ℕ ℕ → Type 0
