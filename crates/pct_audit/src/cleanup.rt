@@ -3,7 +3,7 @@
 ghost use Rattle.std.specs.Prelude.{◌≡◌};
 ghost use Rattle.pct_model.specs.StopTable.{has_begun_to_end};
 ghost use Rattle.pct_laws.specs.Once.{value_of_end};
-ghost use Rattle.pct_audit.specs.OnceTests.{allows, is_newest};
+ghost use Rattle.pct_audit.specs.CleanupTests.{allows, is_newest};
 
 use crate::snapshot::Snapshot;
 use pct_model::{PTHREAD_CANCELED, Reason, What};
@@ -38,12 +38,12 @@ fn is_same(f: u32, a: u32, newest: Option<(u32, u32)>) -> bool
 }
 
 /// Whether the law of cleanup handlers allows an event of a thread.
-#[tactic(auto, unfolding(crate::specs::OnceTests::allows))]
+#[tactic(auto, unfolding(crate::specs::CleanupTests::allows))]
 pub fn may_come(passes: u32, what: What, thread: &Snapshot, destroyed: bool) -> bool
     ensures { result ≡ allows passes what thread.now destroyed }
 {
     match what {
-        What::Popped { f, a, run: _ } =>
+        What::Popped { f, a, .. } =>
             is_same(f, a, thread.newest) && (!has_begun(thread.reason) || thread.left < thread.pushed),
         What::HandlerRun(f, a) =>
             is_same(f, a, thread.newest) && has_begun(thread.reason) && thread.pushed == thread.left,
@@ -60,12 +60,7 @@ pub fn may_come(passes: u32, what: What, thread: &Snapshot, destroyed: bool) -> 
                 && thread.pushed == 0
                 && (number > 0 && number - 1 == thread.passes)
                 && number <= passes,
-        What::DtorRun {
-            pass,
-            key: _,
-            f: _,
-            v: _,
-        } => pass == thread.passes && 0 < pass && thread.pushed == 0 && !destroyed,
+        What::DtorRun { pass, .. } => pass == thread.passes && 0 < pass && thread.pushed == 0 && !destroyed,
         What::Leftover(count) => 0 < count && thread.passes == passes,
         _ => true,
     }

@@ -4,6 +4,8 @@ ghost use Rattle.std.specs.Prelude.{◌≡◌, ℕ, ◌<◌, ◌^◌, ◌&&◌, 
 ghost use Rattle.pct_model.specs.declared.state.OnceState.TheVariants as once_state;
 ghost use Rattle.pct_laws.specs.KnownThreads.{makes_process};
 ghost use Rattle.pct_laws.specs.OnceControls.{given_up, once_after};
+ghost use Rattle.pct_laws.specs.OnceLaw.{may_come};
+ghost use Rattle.pct_audit.specs.ControlTests.{control_in};
 ghost use Rattle.pct_audit.specs.ControlStates.{AreControls, AreControls-prop};
 
 use crate::changes::child_of;
@@ -22,7 +24,7 @@ pub struct Controls {
     indexes: ProcessMaps,
     // For each process, the number of states as a thread last began to end: the controls that are busy with it by one of these are fresh.
     ends: ProcessMaps,
-    ghost kept: { AreControls states indexes ends } by { AreControls-prop states indexes ends },
+    ghost kept: { AreControls states.items indexes ends } by { AreControls-prop states.items indexes ends },
 }
 
 impl Controls {
@@ -101,19 +103,26 @@ impl Controls {
     }
 }
 
-/// Whether the law of pthread_once allows an event of a thread, by the state of the control that it names.
-pub fn may_once(state: OnceState, tid: u32, what: What) -> bool
-    ensures { result ≡ allows_once what tid state }
+/// The control of an event, or 0.
+pub fn control_of(what: What) -> u32
+    ensures { result ≡ control_in what }
 {
     match what {
-        What::OnceCalled(_) => match state {
-            OnceState::Fresh => true,
-            _ => false,
-        },
-        What::OnceDone(_) => match state {
-            OnceState::Busy(id) => id == tid,
-            _ => false,
-        },
+        What::OnceCalled(o) => o,
+        What::OnceDone(o) => o,
+        _ => 0,
+    }
+}
+
+/// Whether an event of a thread may come, by the state of its control.
+pub fn may_call_once(state: OnceState, tid: u32, what: What) -> bool
+    ensures { result ≡ may_come what tid (λ _. state) }
+{
+    match (what, state) {
+        (What::OnceCalled(_), OnceState::Fresh) => true,
+        (What::OnceCalled(_), _) => false,
+        (What::OnceDone(_), OnceState::Busy(id)) => id == tid,
+        (What::OnceDone(_), _) => false,
         _ => true,
     }
 }

@@ -9,7 +9,7 @@ mod controls;
 mod destroyed;
 mod judge;
 mod law;
-mod names;
+mod joins;
 mod rows;
 mod slots;
 mod snapshot;

@@ -27,6 +27,28 @@ pub struct Row {
     pub stage: WaitStage,
 }
 
+impl Row {
+    ghost use Rattle.pct_audit.specs.JoinTests.{is_live, can_be_joined};
+
+    /// Whether the thread is known, and the lifetime of its id is not over.
+    pub fn is_live(&self) -> bool
+        ensures { result ≡ is_live self.now }
+    {
+        self.known && !(self.ended.is_some() && (self.joined || self.detached))
+    }
+
+    /// Whether the thread has ended with a value; it was not joined, and is not detached.
+    pub fn can_be_joined(&self, value: u32) -> bool
+        ensures { result ≡ can_be_joined value self.now }
+    {
+        let has_value = match self.ended {
+            Some(end) => end == value,
+            None => false,
+        };
+        has_value && !self.joined && !self.detached
+    }
+}
+
 /// A row for each thread: by the ids of its process and its own.
 #[derive(Drop)]
 pub struct Rows {
