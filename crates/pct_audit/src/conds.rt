@@ -29,7 +29,7 @@ pub fn change_owners(owners: &mut ProcessMaps, pid: u32, tid: u32, what: What) -
     ensures { OnOk result ((q k : ℕ) → k < 2 ^ 32 → value_in owners.new q k ≡ (if nat_eq pid q then owner_after k tid what (value_in owners.old q k) else value_in owners.old q k)) }
 {
     match what {
-        What::Acquired(m) => owners.set(pid, m, tid as usize),
+        What::Acquired(m) => owners.set(pid, m, tid),
         What::Released(m) => owners.set(pid, m, 0),
         _ => Ok(()),
     }
@@ -47,12 +47,12 @@ pub fn mutex_of(what: What) -> u32
 }
 
 /// Whether an event of a thread may come, by the owner of its mutex.
-pub fn may_own(owner: usize, tid: u32, what: What) -> bool
+pub fn may_own(owner: u32, tid: u32, what: What) -> bool
     ensures { result ≡ may_own what tid (λ _. owner) }
 {
     match what {
         What::Acquired(_) => owner == 0,
-        What::Released(_) => owner == tid as usize,
+        What::Released(_) => owner == tid,
         _ => true,
     }
 }
