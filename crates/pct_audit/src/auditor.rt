@@ -36,7 +36,12 @@ fn broken_by(judge: &Judge, passes: u32, event: Event) -> Option<Law>
 ///
 /// `NoMemory` means that the memory for what is kept of the events ran out. The time is that of a search in a table for each event, and
 /// the memory is bounded by a constant for each event, whatever the events are.
-pub fn audit(alloc: Global, passes: u32, slots: u32, events: &[Event]) -> Result<Option<AuditFault>, NoMemory>
+pub fn audit(
+    alloc: Global,
+    passes: u32,
+    slots: u32,
+    events: &[Event],
+) -> Result<Option<AuditFault>, NoMemory>
     requires slots { 0 < slots }
     requires count { length events.now < 2 ^ 32 }
     ensures { IfOk result (λ found. IsAuditOf passes slots events.now found) }

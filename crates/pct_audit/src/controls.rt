@@ -4,8 +4,7 @@ ghost use Rattle.std.specs.Prelude.{◌≡◌, ℕ, ◌<◌, ◌^◌, ◌&&◌, 
 ghost use Rattle.pct_model.specs.declared.state.OnceState.TheVariants as once_state;
 ghost use Rattle.pct_laws.specs.KnownThreads.{makes_process};
 ghost use Rattle.pct_laws.specs.OnceControls.{given_up, once_after};
-ghost use Rattle.pct_laws.specs.OnceLaw.{may_come};
-ghost use Rattle.pct_audit.specs.ControlTests.{control_in};
+ghost use Rattle.pct_laws.specs.OnceLaw.{may_call, may_return};
 ghost use Rattle.pct_audit.specs.ControlStates.{AreControls, AreControls-prop};
 
 use crate::changes::child_of;
@@ -115,26 +114,22 @@ impl Controls {
     }
 }
 
-/// The control of an event, or 0.
-pub fn control_of(what: What) -> u32
-    ensures { result ≡ control_in what }
+/// Whether the init routine of a control in a state may be called.
+pub fn may_call(state: OnceState) -> bool
+    ensures { result ≡ may_call state }
 {
-    match what {
-        What::OnceCalled(o) => o,
-        What::OnceDone(o) => o,
-        _ => 0,
+    match state {
+        OnceState::Fresh => true,
+        _ => false,
     }
 }
 
-/// Whether an event of a thread may come, by the state of its control.
-pub fn may_call_once(state: OnceState, tid: u32, what: What) -> bool
-    ensures { result ≡ may_come what tid (λ _. state) }
+/// Whether it may return in a thread.
+pub fn may_return(state: OnceState, tid: u32) -> bool
+    ensures { result ≡ may_return tid state }
 {
-    match (what, state) {
-        (What::OnceCalled(_), OnceState::Fresh) => true,
-        (What::OnceCalled(_), _) => false,
-        (What::OnceDone(_), OnceState::Busy(id)) => id == tid,
-        (What::OnceDone(_), _) => false,
-        _ => true,
+    match state {
+        OnceState::Busy(id) => id == tid,
+        _ => false,
     }
 }

@@ -56,13 +56,7 @@ impl Versions {
     /// Makes a version with the values of another one, but at the key, which must fit the height. All versions so far keep their values,
     /// also if `NoMemory` is returned. There is no
     /// memory for 2 ^ 32 nodes.
-    pub fn set(
-        &mut self,
-        height: u32,
-        root: u32,
-        key: u32,
-        value: u32,
-    ) -> Result<u32, NoMemory>
+    pub fn set(&mut self, height: u32, root: u32, key: u32, value: u32) -> Result<u32, NoMemory>
         requires trie { IsTrie (nodes_of self.old) height root }
         requires key { key < 2 ^ height }
         ensures trie { IfOk result (λ version. IsTrie (nodes_of self.new) height version) }

@@ -17,6 +17,6 @@ returns-then-not-row c = λ detached events told.
     let held = holds c.args.self.now.holders in
     let known = ap (λ r. r.known) c.at-row.ensures ∙ (told.rows pid id).known in
     free_told slots pid id events held told.holders c.is_free.result
-      (λ is. subst (λ s. (tid : ℕ) → held pid s tid ≡ false) c.slot_of.ensures.slot (c.is_free.ensures.free is))
-      (λ is. subst (λ s. (tid : ℕ) × (held pid s tid ≡ true)) c.slot_of.ensures.slot (c.is_free.ensures.held is))
+    (λ is. subst (λ s. (tid : ℕ) → held pid s tid ≡ false) c.slot_of.ensures.slot (c.is_free.ensures.free is))
+    (λ is. subst (λ s. (tid : ℕ) × (held pid s tid ≡ true)) c.slot_of.ensures.slot (c.is_free.ensures.held is))
     ∙ ap (λ (b : Bool). b && list_all (leaves_slot slots pid id events) (known_ids pid events)) (sym c.if-not-row.true ∙ ap not known)
