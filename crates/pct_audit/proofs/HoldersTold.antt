@@ -1,10 +1,10 @@
 -- The threads that hold their slots after an event more.
-use Rattle.std.proofs.Common.{◌≡◌, ℕ, Bool, true, false, not, ◌&&◌, ◌||◌, cond, List, [], ◌∷◌, is_some, refl, sym, ap, ◌∙◌, nat_eq}
+use Rattle.std.proofs.Common.{◌≡◌, ℕ, Bool, true, false, not, ◌&&◌, ◌||◌, cond, List, is_some, refl, sym, ap, ◌∙◌, nat_eq}
 use Rattle.std.proofs.lemmas.Bool.{and_parts, eqb-true}
 use Rattle.pct_model.specs.declared.event.Event.{Event}
 use Rattle.pct_model.specs.declared.event.What.{What}
 use Rattle.pct_laws.specs.JoinLaw as JoinLaw
-use Rattle.pct_laws.specs.KnownThreads.{makes_process, is_known, is_joined, is_detached, reports_end}
+use Rattle.pct_laws.specs.KnownThreads.{makes_process, is_known, is_joined, reports_end}
 use Rattle.pct_laws.specs.ThreadSummary.{summary_of}
 use Rattle.pct_model.specs.ThreadSlots.{slot_of}
 use Rattle.pct_audit.specs.declared.rows.Row.{Row}

@@ -1,5 +1,5 @@
 -- What the judge keeps after an event more.
-use Rattle.std.proofs.Common.{◌≡◌, ℕ, ◌+◌, ◌<◌, ◌≤◌, Bool, true, false, ◌&&◌, ◌||◌, cond, List, [], ◌∷◌, length, Option, Some, refl, sym, ap, ◌∙◌, subst, arith, nat_eq}
+use Rattle.std.proofs.Common.{◌≡◌, ℕ, Bool, true, false, ◌&&◌, ◌||◌, cond, List, ◌∷◌, Option, Some, refl, sym, ap, ◌∙◌, subst, arith, nat_eq}
 use Rattle.std.specs.List.{list_any}
 use Rattle.std.specs.Option.{option_map_or}
 use Rattle.std.proofs.lemmas.Bool.{and_parts, eqb-true}
@@ -15,7 +15,6 @@ use Rattle.pct_laws.specs.WaitStages.{stage_after, wait_stage}
 use Rattle.pct_audit.specs.declared.rows.Row.{Row}
 use Rattle.pct_audit.specs.DestroyedEvents.{destroys}
 use Rattle.pct_audit.specs.IsRow.{IsRow, IsThread, IsOwnChange, Grows, names, marked, copied}
-use Rattle.pct_audit.specs.Stacks.{stack_at}
 
 abbrev Stacks : Type 0
 Stacks = List (List (ℕ × ℕ))

@@ -1,9 +1,8 @@
 -- The answers for `audit`.
-use Rattle.std.proofs.Common.{◌≡◌, ℕ, ◌+◌, ◌<◌, ◌≤◌, ◌∷◌, length, get_or, Option, Some, None, refl, sym, ap, ◌∙◌, subst, arith}
+use Rattle.std.proofs.Common.{◌≡◌, ℕ, get_or, None, sym, ap, ◌∙◌, subst, arith}
 use Rattle.std.proofs.Math.Nat.{le_refl}
 use Rattle.pct_model.specs.declared.event.Event.{Event}
 use Rattle.pct_model.specs.declared.event.What.TheVariants as what
-use Rattle.pct_audit.specs.declared.law.Law.{Law}
 use Rattle.pct_audit.specs.AuditOf.{first_events, first_broken, first_broken_by}
 use Rattle.pct_audit.specs.Tells.{Tells}
 use Rattle.pct_audit.proofs.BrokenLaws.{broken_told, first_more, once_allowed, kept_up_to}

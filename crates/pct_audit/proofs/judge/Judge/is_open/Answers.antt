@@ -1,9 +1,7 @@
 -- The answer for `is_open`.
 use Rattle.std.proofs.Common.{◌≡◌, ℕ, Bool, true, false, not, ◌&&◌, sym, ap, ◌∙◌, subst}
 use Rattle.std.specs.List.{list_all}
-use Rattle.pct_model.specs.ThreadSlots.{slot_of}
 use Rattle.pct_laws.specs.KnownIds.{known_ids}
-use Rattle.pct_laws.specs.KnownThreads.{is_known}
 use Rattle.pct_laws.specs.SlotLaw.{leaves_slot}
 use Rattle.pct_holders.specs.Holds.{holds}
 use Rattle.pct_audit.proofs.SlotTold.{free_told}
