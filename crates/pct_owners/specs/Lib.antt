@@ -1,2 +1,0 @@
-pub mod OwnersIn
-pub mod Roots
