@@ -1,6 +1,6 @@
 //! The audit of events.
 
-ghost use Rattle.std.specs.Prelude.{◌≡◌, ◌<◌, ◌^◌, IfOk, List, ℕ, None, length};
+ghost use Rattle.std.specs.Prelude.{◌≡◌, ◌<◌, ◌^◌, IfOk, List, None, length};
 ghost use Rattle.pct_model.specs.declared.event.Event.{Event as AnEvent};
 ghost use Rattle.pct_audit.specs.AuditOf.{IsAuditOf, first_broken_by};
 ghost use Rattle.pct_audit.specs.Tells.{Tells};
