@@ -63,3 +63,12 @@ pub kept_is_none : (passes slots : ℕ) (events : List Event) (found : Option Au
 kept_is_none passes slots events found none is =
     audit_is_one passes slots events found None is
     (λ k low. all_kept passes slots (reverse events) (first_events k events) (λ law. beginning_kept law passes slots k events) judged_laws none)
+
+found_none : (passes slots : ℕ) (events : List Event) → ((law : Law) → keeps law passes slots events ≡ true) → (laws : List Law) → find (λ law. not (keeps law passes slots events)) laws ≡ None
+found_none passes slots events kept [] = refl
+found_none passes slots events kept (law ∷ laws) =
+    ap (λ (b : Bool). cond (not b) (Some law) (find (λ law. not (keeps law passes slots events)) laws)) (kept law) ∙ found_none passes slots events kept laws
+
+-- where all events keep each of the laws, the audit answers nothing
+pub lawful_is_none : (passes slots : ℕ) (events : List Event) (found : Option AuditFault) → ((law : Law) → keeps law passes slots (reverse events) ≡ true) → IsAuditOf passes slots events found → found ≡ None
+lawful_is_none passes slots events found kept is = kept_is_none passes slots events found (found_none passes slots (reverse events) kept judged_laws) is

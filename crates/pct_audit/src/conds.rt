@@ -1,6 +1,6 @@
 //! The law of mutexes and condition waits.
 
-ghost use Rattle.std.specs.Prelude.{◌≡◌, ℕ, ◌<◌, ◌^◌, ◌&&◌, if◌then◌else◌, OnOk, nat_eq};
+ghost use Rattle.std.specs.Prelude.{◌≡◌, ℕ, ◌<◌, ◌^◌, if◌then◌else◌, OnOk, nat_eq};
 ghost use Rattle.pct_laws.specs.CondLaw.{has_just_left, may_hand_on};
 ghost use Rattle.pct_laws.specs.KnownThreads.{makes_process};
 ghost use Rattle.pct_laws.specs.MutexOwners.{owner_after};

@@ -1,6 +1,6 @@
 //! Stacks of handlers that share what is below their tops.
 
-ghost use Rattle.std.specs.Prelude.{◌≡◌, ℕ, ◌<◌, ◌≤◌, List, [], ◌∷◌, ◌++◌, length, OnOk, OnErr, IfOk, Some};
+ghost use Rattle.std.specs.Prelude.{◌≡◌, ℕ, ◌<◌, ◌≤◌, List, [], ◌∷◌, ◌++◌, length, OnOk, IfOk};
 ghost use Rattle.pct_model.specs.Actions.{without_first};
 ghost use Rattle.pct_audit.specs.Stacks.{newest};
 
