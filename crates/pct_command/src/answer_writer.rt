@@ -19,14 +19,16 @@ use pct_printer::print;
 use pct_report::write_report;
 use pct_tallies::write_tally;
 
-/// Writes an answer, which is dropped, and returns its status and whether it was written. One function owns the answer and lends it: what is
-/// to be proved of that is large.
+/// Writes an answer, drops it, and returns its status and whether it was written.
 pub(crate) fn give_answer<K: Sink>(answer: Answer, sink: &mut K) -> (Status, Result<(), Failed>)
     ensures status { result.0 ≡ status_of_answer answer }
     ensures answered { IsAnswered result.0 }
     ensures written { Writes K.written K.errors K.inners sink.old sink.new (text_of_answer answer) result.1 }
 {
-    (answer.status(), write_answer(&answer, sink))
+    let status = answer.status();
+    let written = write_answer(&answer, sink);
+    drop(answer);
+    (status, written)
 }
 
 // Writes an answer: the line of a refusal, the report of a run, the canonical text of a script, the table of cancellation points,
