@@ -1,0 +1,12 @@
+mod SameTests
+mod PairKeys
+mod StackFacts
+mod KnownIds
+mod SlotTold
+mod CleanupTold
+mod ProcessesTold
+mod MoreEvents
+mod HoldersTold
+mod BrokenLaws
+mod GivenUp
+pub mod Determined

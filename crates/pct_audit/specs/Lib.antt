@@ -1,0 +1,14 @@
+pub mod Stacks
+pub mod StackNodes
+pub mod Rows
+pub mod IsRow
+pub mod CleanupTests
+pub mod DestroyedKeys
+pub mod DestroyedEvents
+pub mod CondTests
+pub mod ControlTests
+pub mod ControlStates
+pub mod Controls
+pub mod JoinTests
+pub mod Tells
+pub mod AuditOf

@@ -1,0 +1,20 @@
+//! The audit of the events of a report: the first event at which one of five laws fails, whoever wrote the report.
+#![tactic(auto)]
+
+mod auditor;
+mod changes;
+mod cleanup;
+mod conds;
+mod controls;
+mod destroyed;
+mod judge;
+mod law;
+mod joins;
+mod rows;
+mod slots;
+mod snapshot;
+mod stacks;
+
+pub use auditor::audit;
+pub use law::AuditFault;
+pub use law::Law;
