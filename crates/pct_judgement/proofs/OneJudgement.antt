@@ -22,11 +22,11 @@ module _ {A E : Type 0} where
   error_of other (Ok x) = other
   error_of other (Err e) = e
 
-  same_value : (r : Result A E) (x y : A) → r ≡ Ok x → r ≡ Ok y → x ≡ y
+  pub same_value : (r : Result A E) (x y : A) → r ≡ Ok x → r ≡ Ok y → x ≡ y
   unfolding value_of
   same_value r x y is also = ap (value_of x) (sym is ∙ also)
 
-  same_error : (r : Result A E) (d e : E) → r ≡ Err d → r ≡ Err e → d ≡ e
+  pub same_error : (r : Result A E) (d e : E) → r ≡ Err d → r ≡ Err e → d ≡ e
   unfolding error_of
   same_error r d e is also = ap (error_of d) (sym is ∙ also)
 

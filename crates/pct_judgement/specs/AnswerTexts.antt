@@ -31,8 +31,12 @@ report_why_text report_why.BadEvent = codes "bad_event"
 report_why_text report_why.BadVerdict = codes "bad_verdict"
 report_why_text report_why.BadSchedule = codes "bad_schedule"
 
+-- `refused report LINE WHY`
+abbrev pub refused_report : ℕ → ReportWhy → List (List ℕ)
+refused_report line why = refusal_line (codes "report") line (report_why_text why)
+
 -- the text of a judgement
 abbrev pub judgement_text : Judgement → List ℕ
 judgement_text (Answered answers) = text_of (answer_lines answers)
 judgement_text (ExpectRefused line why) = line_text (refusal_line (codes "expect") line (why_text why))
-judgement_text (ReportRefused line why) = line_text (refusal_line (codes "report") line (report_why_text why))
+judgement_text (ReportRefused line why) = line_text (refused_report line why)

@@ -4,7 +4,7 @@ ghost use Rattle.std.specs.Prelude.{◌≡◌, [], ◌∷◌};
 ghost use Rattle.std.specs.List.{flat_map};
 ghost use Rattle.pct_io.specs.Writes.{Writes};
 ghost use Rattle.pct_model.specs.Keywords.{line_text, text_of};
-ghost use Rattle.pct_judgement.specs.AnswerTexts.{answer_line, answer_lines, judgement_text, refusal_line, report_why_text};
+ghost use Rattle.pct_judgement.specs.AnswerTexts.{answer_line, answer_lines, judgement_text, refusal_line, refused_report, report_why_text};
 
 use crate::judgement::{Judgement, failed_count};
 use pct_expect::Judged;
@@ -31,12 +31,7 @@ fn write_lines<K: Sink>(judgement: &Judgement, sink: &mut K) -> Result<(), Faile
     match judgement {
         Judgement::Answered(answers) => write_answers(answers.as_slice(), sink),
         Judgement::ExpectRefused { line, why } => write_refusal(b"expect", *line, why.text(), sink),
-        Judgement::ReportRefused { line, why } => write_refusal(
-            b"report",
-            *line,
-            text_of_why(*why),
-            sink,
-        ),
+        Judgement::ReportRefused { line, why } => write_report_refusal(*line, *why, sink),
     }
 }
 
@@ -82,6 +77,19 @@ fn write_answer<K: Sink>(answer: Judged, sink: &mut K) -> Result<(), Failed>
             ],
         )
     }
+}
+
+/// Writes the line of a refused report, `refused report LINE WHY`.
+///
+/// `Failed` means that the sink recorded one error, and that a prefix of the line was written. The call allocates no memory.
+pub fn write_report_refusal<K: Sink>(
+    line: u32,
+    why: ReportWhy,
+    sink: &mut K,
+) -> Result<(), Failed>
+    ensures { Writes K.written K.errors K.inners sink.old sink.new (line_text (refused_report line why)) result }
+{
+    write_refusal(b"report", line, text_of_why(why), sink)
 }
 
 // Writes the line of a refusal.

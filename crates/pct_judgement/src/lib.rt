@@ -4,5 +4,5 @@
 mod answer_text;
 mod judgement;
 
-pub use answer_text::write_judgement;
+pub use answer_text::{write_judgement, write_report_refusal};
 pub use judgement::{Judgement, failed_count, judge_input};

@@ -1,10 +1,11 @@
 //! Reading a report: first the lines down to the verdict are checked, then the schedule, and then the places of the events are stored.
 
-ghost use Rattle.std.specs.Prelude.{◌≡◌, ◌+◌, ◌<◌, ◌≤◌, ◌^◌, All, Err, IfOk, IsOk, length, map};
+ghost use Rattle.std.specs.Prelude.{◌≡◌, ◌+◌, ◌<◌, ◌≤◌, ◌^◌, All, Err, IfOk, IsOk, length, map, true};
 ghost use Rattle.pct_expect.specs.Events.{IsWithin, events_in};
 ghost use Rattle.pct_model.specs.declared.limits.TheConstants.{MAX_INPUT};
 ghost use Rattle.pct_model.specs.LineParsing.{words_in};
 ghost use Rattle.pct_model.specs.Lines.{lines_of, strip_cr};
+ghost use Rattle.pct_model.specs.Run.{is_config};
 ghost use Rattle.pct_report_reader.specs.declared.fault.ReportFault.TheVariants.{NoMemory};
 ghost use Rattle.pct_report_reader.specs.Body.{as_body};
 ghost use Rattle.pct_report_reader.specs.Gives.{Gives, GivesAlways};
@@ -53,6 +54,7 @@ struct Body<'a> {
 pub fn read_report(alloc: Global, text: &[u8]) -> Result<ReportText, ReportFault>
     requires { length text.now ≤ MAX_INPUT }
     ensures read { Gives (λ report. (report.config, report.lines)) result (report_in text.now) }
+    ensures config { IfOk result (λ report. is_config report.config ≡ true) }
     ensures within { IfOk result (λ report. All (IsWithin text.now) report.lines) }
     ensures few { IfOk result (λ report. length report.lines < 2 ^ 32) }
     ensures events { IfOk result (λ report. events_in text.now report.lines
@@ -129,8 +131,9 @@ fn body_from(format: Format, text: &[u8]) -> Result<Body<'_>, ReportFault>
 // The configuration of the schedule after the verdict.
 fn schedule_after(alloc: Global, body: Body) -> Result<Config, ReportFault>
     requires { body.number + length body.after.now ≤ MAX_INPUT }
-    ensures { Gives (λ config. config) result
+    ensures read { Gives (λ config. config) result
         (schedule_after body.entry.format body.entry.number (map strip_cr (lines_of body.entry.after.now))) }
+    ensures config { IfOk result (λ config. is_config config ≡ true) }
 {
     if !schedule_follows(body.format, body.after) {
         return Err(ReportFault::Refused {

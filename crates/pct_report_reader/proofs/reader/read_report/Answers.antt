@@ -15,12 +15,12 @@ returns-in_err-body-clause-read c =
 pub returns-in_err-config-clause-read : goal.returns-in_err-config-clause-read
 returns-in_err-config-clause-read c =
     let p = err_from_is_err_and c.from_residual-in_err-config.result c.from_residual-in_err-config.ensures.1 in
-    rw (p.1, p.2) (schedule_refused _ c.args.text.now (as_body c.in_ok-body.body) c.in_ok-body.ensures.read c.in_err-config.ensures)
+    rw (p.1, p.2) (schedule_refused _ c.args.text.now (as_body c.in_ok-body.body) c.in_ok-body.ensures.read c.in_err-config.ensures.read)
 
 pub returns-clause-read : goal.returns-clause-read
 returns-clause-read c =
     let config = c.in_ok-config.config in
-    report_read c.args.text.now (as_body c.in_ok-body.body) config c.in_ok-body.ensures.read c.in_ok-config.ensures
+    report_read c.args.text.now (as_body c.in_ok-body.body) config c.in_ok-body.ensures.read c.in_ok-config.ensures.read
     ∙ ap (λ (lines : List Span). Ok (config, lines)) (sym (c.of.ensures ∙ c.in_ok-lines.ensures))
 
 pub returns-clause-within : goal.returns-clause-within
