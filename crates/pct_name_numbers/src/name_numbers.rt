@@ -1,6 +1,6 @@
 //! A table of the names that were read.
 
-ghost use Rattle.std.specs.Prelude.{◌≡◌, ◌<◌, ℕ, List, [], Some, IfOk, OnOk, OnErr};
+ghost use Rattle.std.specs.Prelude.{◌≡◌, ◌+◌, ◌<◌, ◌≤◌, ℕ, List, [], Some, IfOk, OnOk, OnErr};
 ghost use Rattle.pct_model.specs.Names.{index_among};
 
 use pct_io::NoMemory;
@@ -33,6 +33,7 @@ impl<'a> NameNumbers<'a> {
         requires { count_of self.old < 4294967295 }
         ensures number { IfOk result (λ number. (names : List (List ℕ)) → IsNumbering self.old names → Some number ≡ index_among (names_with name.now names) name.now) }
         ensures names { OnOk result ((names : List (List ℕ)) → IsNumbering self.old names → IsNumbering self.new (names_with name.now names)) }
+        ensures count { OnOk result (count_of self.new ≤ count_of self.old + 1) }
         ensures unchanged { OnErr result ((names : List (List ℕ)) → IsNumbering self.old names → IsNumbering self.new names) }
     {
         match self.numbers.get(name) {

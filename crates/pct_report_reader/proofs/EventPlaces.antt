@@ -166,6 +166,15 @@ words_of_places text (line ∷ lines) placed =
 pub places_spell : (text : List ℕ) → events_in text (map span_of (event_lines text)) ≡ map (λ line. words_in line.1) (event_lines text)
 places_spell text = words_of_places text (event_lines text) (text_placed text)
 
+parts_of_lines : (text : List ℕ) (lines : List (ℕ × List ℕ)) → All (IsPlaced text) lines → map (part_at text) (map span_of lines) ≡ map (λ line. line.1) lines
+parts_of_lines text [] placed = refl
+parts_of_lines text (line ∷ lines) placed =
+    ap (λ (bytes : List ℕ). bytes ∷ map (part_at text) (map span_of lines)) (All-head (IsPlaced text) line lines placed).is
+    ∙ ap (λ (others : List (List ℕ)). line.1 ∷ others) (parts_of_lines text lines (All-tail (IsPlaced text) line lines placed))
+
+pub parts_of_places : (text : List ℕ) → map (part_at text) (map span_of (event_lines text)) ≡ map (λ line. line.1) (event_lines text)
+parts_of_places text = parts_of_lines text (event_lines text) (text_placed text)
+
 few_after_first : (ends : Bool) (line : ℕ × List ℕ) (lines : List (ℕ × List ℕ)) (n : ℕ) → length lines ≤ n → length (cond ends [] (line ∷ lines)) ≤ suc n
 few_after_first true line lines n few = omega arith
 few_after_first false line lines n few = omega (arith, few)

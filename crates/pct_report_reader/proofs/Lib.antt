@@ -1,6 +1,8 @@
 mod LineCount
 mod FaultLines
-mod WordsLeft
+pub mod WordsLeft
 mod BodyLines
-mod EventPlaces
+pub mod EventPlaces
 mod ReportParts
+pub mod FirstFound
+pub mod ReadLines

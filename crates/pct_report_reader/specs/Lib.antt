@@ -3,3 +3,4 @@ pub mod Reading
 pub mod Forms
 pub mod Gives
 pub mod Body
+pub mod EventWords

@@ -3,6 +3,7 @@
 ghost use Rattle.std.specs.Prelude.{◌≡◌};
 ghost use Rattle.pct_report_reader.specs.declared.fault.ReportFault.TheVariants.{NoMemory};
 
+use pct_io::NoMemory;
 use std::alloc::{AllocError, AllocFailed};
 use thiserror::Error;
 
@@ -42,6 +43,14 @@ impl<T: Drop> From<AllocFailed<T>> for ReportFault {
     ghost from_gives = { λ _ fault. fault ≡ NoMemory };
 
     fn from(_failed: AllocFailed<T>) -> ReportFault {
+        ReportFault::NoMemory
+    }
+}
+
+impl From<NoMemory> for ReportFault {
+    ghost from_gives = { λ _ fault. fault ≡ NoMemory };
+
+    fn from(_failed: NoMemory) -> ReportFault {
         ReportFault::NoMemory
     }
 }

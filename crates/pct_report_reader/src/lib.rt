@@ -10,3 +10,5 @@ mod word;
 pub use fault::{ReportFault, ReportWhy};
 pub use pct_expect::Span;
 pub use reader::{ReportText, Spans, read_report};
+pub use text::{Row, WordKind, events, has_form};
+pub use word::{caller_of, first_word, stop_of};

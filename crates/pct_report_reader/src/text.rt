@@ -31,7 +31,7 @@ pub enum WordKind {
 }
 
 /// The form of a text: its first word, and what each word after it may be.
-pub(crate) type Row = (Keyword, &'static [WordKind]);
+pub type Row = (Keyword, &'static [WordKind]);
 
 const NUMBER: WordKind = WordKind::Number;
 
@@ -126,7 +126,7 @@ static VERDICTS: [Row; 6] = [
 
 /// The forms of events.
 #[tactic(auto, unfolding(crate::specs::Texts::event_forms))]
-pub(crate) fn events() -> &'static [Row]
+pub fn events() -> &'static [Row]
     ensures { map as_form result.now ≡ event_forms }
 {
     &EVENTS
@@ -158,8 +158,8 @@ fn are_among(forms: &[(Keyword, &[WordKind])], bytes: &[u8]) -> bool
     forms.iter().any(|row| has_form(*row, first, rest))
 }
 
-// Whether a first word and the words after it are of the form.
-fn has_form(row: (Keyword, &[WordKind]), first: &[u8], rest: Option<&[u8]>) -> bool
+/// Whether a first word and the words after it are of the form.
+pub fn has_form(row: (Keyword, &[WordKind]), first: &[u8], rest: Option<&[u8]>) -> bool
     ensures { result ≡ has_form (first.now ∷ words_left rest.entry) (as_form row.entry) }
 {
     row.0.text() == first && are_words(row.1, rest)

@@ -1,14 +1,14 @@
 //! The words of a line.
 
-ghost use Rattle.std.specs.Prelude.{◌≡◌, ◌∷◌, bytes_eq, true};
-ghost use Rattle.std.specs.List.{list_all, list_any};
+ghost use Rattle.std.specs.Prelude.{◌≡◌, ◌∷◌, bytes_eq, find, true};
+ghost use Rattle.std.specs.List.{list_all};
 ghost use Rattle.pct_model.specs.EventTexts.{caller_name};
 ghost use Rattle.pct_model.specs.Keywords.{keyword_text};
 ghost use Rattle.pct_model.specs.LineKinds.{is_no_point, syntax_of};
 ghost use Rattle.pct_model.specs.Lines.{number_of, words_of};
 ghost use Rattle.pct_model.specs.Names.{is_letter, is_name, is_name_byte};
 ghost use Rattle.pct_report_reader.specs.Forms.{words_left};
-ghost use Rattle.pct_report_reader.specs.Texts.{has_name, is_caller, is_positive, is_stop, is_word};
+ghost use Rattle.pct_report_reader.specs.Texts.{callers, has_name, is_caller, is_positive, is_stop, is_word, stops};
 
 use crate::text::WordKind;
 use pct_cancel::point_of;
@@ -47,7 +47,7 @@ static STOPS: [Why; 16] = [
 
 /// The first word of the bytes, and the bytes after the space that ends it, if there is one.
 #[inline(always)]
-pub(crate) fn first_word(bytes: &[u8]) -> (&[u8], Option<&[u8]>)
+pub fn first_word(bytes: &[u8]) -> (&[u8], Option<&[u8]>)
     ensures { words_of bytes.now ≡ result.0.now ∷ words_left result.1 }
 {
     match split_once(bytes, b' ') {
@@ -113,18 +113,27 @@ fn is_name(word: &[u8]) -> bool
 }
 
 // Whether a word is the name of a call whose failure is an event.
-#[tactic(auto, unfolding(crate::specs::Texts::is_caller))]
 fn is_caller(word: &[u8]) -> bool
     ensures { result ≡ is_caller word.now }
 {
-    is_caller_among(&CALLERS, word)
+    caller_of(word).is_some()
 }
 
-// Whether a word is the name of one of these calls.
-fn is_caller_among(calls: &[Caller], word: &[u8]) -> bool
-    ensures { result ≡ list_any (λ call. bytes_eq (caller_name call) word.now) calls.now }
+/// The call with this name. It is `None` exactly if the word is not the name of a call whose failure is an event.
+pub fn caller_of(word: &[u8]) -> Option<Caller>
+    ensures { result ≡ find (λ call. bytes_eq (caller_name call) word.now) callers }
 {
-    calls.iter().any(|call| caller_name(*call) == word)
+    caller_among(&CALLERS, word)
+}
+
+// The first of these calls with this name.
+fn caller_among(calls: &[Caller], word: &[u8]) -> Option<Caller>
+    ensures { result ≡ find (λ call. bytes_eq (caller_name call) word.now) calls.now }
+{
+    calls
+        .iter()
+        .copied()
+        .find(|call| caller_name(*call) == word)
 }
 
 // The name of a call.
@@ -152,18 +161,27 @@ fn keyword_of(kind: LineKind) -> &'static [u8]
 }
 
 // Whether a word is the name of a stop of this class.
-#[tactic(auto, unfolding(crate::specs::Texts::is_stop))]
 fn is_stop(class: Keyword, word: &[u8]) -> bool
     ensures { result ≡ is_stop class word.now }
 {
-    is_stop_among(&STOPS, class, word)
+    stop_of(class, word).is_some()
 }
 
-// Whether one of these stops has this class and this name.
-fn is_stop_among(stops: &[Why], class: Keyword, name: &[u8]) -> bool
-    ensures { result ≡ list_any (λ stop. has_name class name.now stop) stops.now }
+/// The stop with this class and this name, if there is one.
+pub fn stop_of(class: Keyword, name: &[u8]) -> Option<Why>
+    ensures { result ≡ find (has_name class name.now) stops }
 {
-    stops.iter().any(|stop| has_name(*stop, class, name))
+    stop_among(&STOPS, class, name)
+}
+
+// The first of these stops that has this class and this name.
+fn stop_among(stops: &[Why], class: Keyword, name: &[u8]) -> Option<Why>
+    ensures { result ≡ find (has_name class name.now) stops.now }
+{
+    stops
+        .iter()
+        .copied()
+        .find(|stop| has_name(*stop, class, name))
 }
 
 // Whether a stop has this class and this name.

@@ -1,0 +1,3 @@
+pub mod Values
+pub mod Numberings
+pub mod EventReports
