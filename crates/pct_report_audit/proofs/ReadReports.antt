@@ -6,7 +6,8 @@ use Rattle.pct_model.specs.Lines.{strip_cr}
 use Rattle.pct_expect.specs.declared.span.Span.{Span}
 use Rattle.pct_judgement.proofs.OneJudgement.{same_value}
 use Rattle.pct_report_reader.specs.declared.fault.ReportWhy.{ReportWhy}
-use Rattle.pct_report_reader.specs.Reading.{Read, ReadBody, body_in, config_with, event_lines, report_in, with_lines}
+use Rattle.pct_report_reader.specs.Reading.{Read, body_in, report_in}
+use Rattle.pct_event_reader.proofs.ReportParts.{body_read}
 use Rattle.pct_event_reader.specs.EventReports.{event_report_in, report_events, with_events}
 
 -- what is read with events is read
@@ -32,20 +33,11 @@ report_refused text line why is = refused_by (report_events text) (report_in tex
 
 -- ---- texts that are not empty
 
--- the lines down to the verdict have no fault
-body_by : (body : Read ReadBody) (lines : List (ℕ × List ℕ)) (report : Config × List Span) → with_lines lines (config_with body) ≡ Ok report → IsOk body
-body_by (Ok body) lines report is = refl
-body_by (Err fault) lines report is = absurd cc
-
-body_read : (text : List ℕ) (report : Config × List Span) → report_in text ≡ Ok report → IsOk (body_in (map strip_cr (lines_of text)))
-unfolding report_in
-body_read text report is = body_by (body_in (map strip_cr (lines_of text))) (event_lines text) report is
-
 empty_has_none : IsOk (body_in (map strip_cr (lines_of []))) → ⊥
 unfolding body_in lines_of
 empty_has_none ok = absurd (false≢true ok)
 
--- so the text is not empty
+-- a text whose lines down to the verdict have no fault
 pub some_body : (text : List ℕ) → IsOk (body_in (map strip_cr (lines_of text))) → 0 < length text
 some_body [] ok = absurd (empty_has_none ok)
 some_body (b ∷ bytes) ok = omega arith
