@@ -53,6 +53,7 @@ demonstration-status answer.Points is = absurd is
 demonstration-status (answer.Demonstrated number engine) is = refl
 demonstration-status (answer.Sampled seeds tally) is = absurd is
 demonstration-status (answer.Judged j) is = absurd is
+demonstration-status (answer.Audited a) is = absurd is
 
 pub returns-in-Ok-write_answer-clause-demo : goal.returns-in-Ok-write_answer-clause-demo
 returns-in-Ok-write_answer-clause-demo g c = λ asked.
