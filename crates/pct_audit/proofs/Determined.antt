@@ -1,5 +1,5 @@
 -- What the audit answers is determined by the events, and is nothing where they keep the laws.
-use Rattle.std.proofs.Common.{◌≡◌, ℕ, ◌<◌, ◌≤◌, Bool, true, false, not, cond, List, [], ◌∷◌, ◌++◌, take, drop, length, reverse, Option, Some, None, refl, sym, ap, ◌∙◌, subst, arith, ◌⊎◌, inl, inr, true≢false}
+use Rattle.std.proofs.Common.{◌≡◌, ℕ, ◌<◌, ◌≤◌, Bool, true, false, not, cond, List, [], ◌∷◌, ◌++◌, take, drop, reverse, Option, Some, None, refl, sym, ap, ◌∙◌, subst, arith, ◌⊎◌, inl, inr, true≢false}
 use Rattle.std.specs.Prelude.{find, unwrap_or}
 use Rattle.std.proofs.lemmas.Bool.{and_parts, cases_lt}
 use Rattle.std.proofs.lemmas.List.{reverse-append, take-append-drop}
@@ -58,8 +58,20 @@ all_kept passes slots events earlier kept [] none = refl
 all_kept passes slots events earlier kept (law ∷ laws) none =
     none_left (keeps law passes slots events) (keeps law passes slots earlier) law _ _ (kept law) (all_kept passes slots events earlier kept laws) none
 
+-- where all events keep the laws, so does each of their beginnings
+pub none_of_kept : (passes slots : ℕ) (events : List Event) → first_broken passes slots (reverse events) ≡ None → IsAuditOf passes slots events None
+none_of_kept passes slots events none = λ k low. all_kept passes slots (reverse events) (first_events k events) (λ law. beginning_kept law passes slots k events) judged_laws none
+
 -- where all events keep the laws, the audit answers nothing
 pub kept_is_none : (passes slots : ℕ) (events : List Event) (found : Option AuditFault) → first_broken passes slots (reverse events) ≡ None → IsAuditOf passes slots events found → found ≡ None
 kept_is_none passes slots events found none is =
-    audit_is_one passes slots events found None is
-    (λ k low. all_kept passes slots (reverse events) (first_events k events) (λ law. beginning_kept law passes slots k events) judged_laws none)
+    audit_is_one passes slots events found None is (none_of_kept passes slots events none)
+
+found_none : (passes slots : ℕ) (events : List Event) → ((law : Law) → keeps law passes slots events ≡ true) → (laws : List Law) → find (λ law. not (keeps law passes slots events)) laws ≡ None
+found_none passes slots events kept [] = refl
+found_none passes slots events kept (law ∷ laws) =
+    ap (λ (b : Bool). cond (not b) (Some law) (find (λ law. not (keeps law passes slots events)) laws)) (kept law) ∙ found_none passes slots events kept laws
+
+-- where all events keep each of the laws, the audit answers nothing
+pub lawful_is_none : (passes slots : ℕ) (events : List Event) (found : Option AuditFault) → ((law : Law) → keeps law passes slots (reverse events) ≡ true) → IsAuditOf passes slots events found → found ≡ None
+lawful_is_none passes slots events found kept is = kept_is_none passes slots events found (found_none passes slots (reverse events) kept judged_laws) is

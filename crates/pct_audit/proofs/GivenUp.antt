@@ -37,7 +37,7 @@ module _ (states : List OnceState) (indexes ends new : ProcessMaps) (pid tid : �
   state_told q index (Some (Busy t)) is =
       ap (λ (n : ℕ). cond (nat_lt index n) Fresh (Busy t)) (set q t (kept.1.1 index t is))
       ∙ busy_by (nat_eq pid q) (nat_eq tid t) (nat_lt index (value_in ends q t)) t tid index count refl
-        (lt-ltb index count (subst (λ (n : ℕ). index < n) (sym counts) (slice_get_within states index (Busy t) is))) (value_in ends q t) refl
+      (lt-ltb index count (subst (λ (n : ℕ). index < n) (sym counts) (slice_get_within states index (Busy t) is))) (value_in ends q t) refl
 
   -- the controls of the process that are busy with the thread are fresh
   pub given_up_told : (q k : ℕ) → k < 2 ^ 32 → state_at states indexes new q k ≡ cond (nat_eq pid q) (given_up tid (state_at states indexes ends q k)) (state_at states indexes ends q k)

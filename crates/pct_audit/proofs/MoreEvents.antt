@@ -1,5 +1,5 @@
 -- What the judge keeps after an event more.
-use Rattle.std.proofs.Common.{◌≡◌, ℕ, ◌+◌, ◌<◌, ◌≤◌, Bool, true, false, ◌&&◌, ◌||◌, cond, List, [], ◌∷◌, length, Option, Some, refl, sym, ap, ◌∙◌, subst, arith, nat_eq}
+use Rattle.std.proofs.Common.{◌≡◌, ℕ, Bool, true, false, ◌&&◌, ◌||◌, cond, List, ◌∷◌, Option, Some, refl, sym, ap, ◌∙◌, subst, arith, nat_eq}
 use Rattle.std.specs.List.{list_any}
 use Rattle.std.specs.Option.{option_map_or}
 use Rattle.std.proofs.lemmas.Bool.{and_parts, eqb-true}
@@ -15,7 +15,6 @@ use Rattle.pct_laws.specs.WaitStages.{stage_after, wait_stage}
 use Rattle.pct_audit.specs.declared.rows.Row.{Row}
 use Rattle.pct_audit.specs.DestroyedEvents.{destroys}
 use Rattle.pct_audit.specs.IsRow.{IsRow, IsThread, IsOwnChange, Grows, names, marked, copied}
-use Rattle.pct_audit.specs.Stacks.{stack_at}
 
 abbrev Stacks : Type 0
 Stacks = List (List (ℕ × ℕ))
@@ -24,11 +23,14 @@ Stacks = List (List (ℕ × ℕ))
 
 row_grows : (a b : Stacks) (row : Row) (s : ThreadSummary) → Grows a b → IsRow a row s → IsRow b row s
 row_grows a b row s grows is = record {
-    handlers_number = omega (arith, is.handlers_number, grows.more);
-    handlers = grows.same row.handlers is.handlers_number ∙ is.handlers;
-    left_number = omega (arith, is.left_number, grows.more);
-    left = grows.same row.left is.left_number ∙ is.left;
-    reason = is.reason; ended = is.ended; passes = is.passes }
+  handlers_number = omega (arith, is.handlers_number, grows.more);
+  handlers = grows.same row.handlers is.handlers_number ∙ is.handlers;
+  left_number = omega (arith, is.left_number, grows.more);
+  left = grows.same row.left is.left_number ∙ is.left;
+  reason = is.reason;
+  ended = is.ended;
+  passes = is.passes;
+}
 
 row_marked : (stacks : Stacks) (w : What) (row : Row) (s : ThreadSummary) → IsRow stacks row s → IsRow stacks (marked w row) s
 row_marked stacks (what.Created id detached) row s is = record { handlers_number = is.handlers_number; handlers = is.handlers; left_number = is.left_number; left = is.left; reason = is.reason; ended = is.ended; passes = is.passes }
@@ -38,8 +40,14 @@ row_marked stacks _ row s is = is
 
 row_copied : (stacks : Stacks) (row caller : Row) (s p : ThreadSummary) → IsRow stacks row s → IsRow stacks caller p → IsRow stacks (copied caller row) (record s { handlers = p.handlers })
 row_copied stacks row caller s p is other = record {
-    handlers_number = other.handlers_number; handlers = other.handlers; left_number = is.left_number; left = is.left;
-    reason = is.reason; ended = is.ended; passes = is.passes }
+  handlers_number = other.handlers_number;
+  handlers = other.handlers;
+  left_number = is.left_number;
+  left = is.left;
+  reason = is.reason;
+  ended = is.ended;
+  passes = is.passes;
+}
 
 -- ---- summaries before the event of the thread itself
 
@@ -96,7 +104,6 @@ module _ (e : Event) (events : List Event) (r0 r1 r2 r3 : ℕ → ℕ → Row) (
     (second : (q u : ℕ) → r2 q u ≡ cond (nat_eq e.tid u && makes_process q e.what) (copied (r1 e.pid e.tid) (r1 q u)) (r1 q u))
     (third : (q u : ℕ) → r3 q u ≡ cond (nat_eq e.pid q && nat_eq e.tid u) next (r2 q u))
     (own : IsOwnChange e.what (r2 e.pid e.tid) next) where
-
   -- a part that only marks change
   marks_part : {A : Type 0} (part : Row → A) (q u : ℕ) → part (r1 q u) ≡ cond (nat_eq e.pid q && names u e.what) (part (marked e.what (r0 q u))) (part (r0 q u))
   marks_part part q u = ap part (first q u) ∙ by_cond part (nat_eq e.pid q && names u e.what) (marked e.what (r0 q u)) (r0 q u)
@@ -263,12 +270,13 @@ module _ (e : Event) (events : List Event) (r0 r1 r2 r3 : ℕ → ℕ → Row) (
   pub threads_told : (stacks after : Stacks) → Grows stacks after → ((q u : ℕ) → IsThread stacks (r0 q u) q u events) → IsRow after next (with_event e.what (summary_of e.pid e.tid events))
       → (q u : ℕ) → IsThread after (r3 q u) q u (e ∷ events)
   threads_told stacks after grows told made q u = record {
-      summary = summary_told stacks after grows (λ x y. (told x y).summary) made q u;
-      known = known_told q u (told q u).known;
-      detached = detached_told (λ x y. (told x y).detached) q u;
-      joined = joined_told q u (told q u).joined;
-      joining = joining_told q u (told q u).joining;
-      stage = stage_told (λ x y. (told x y).stage) q u }
+    summary = summary_told stacks after grows (λ x y. (told x y).summary) made q u;
+    known = known_told q u (told q u).known;
+    detached = detached_told (λ x y. (told x y).detached) q u;
+    joined = joined_told q u (told q u).joined;
+    joining = joining_told q u (told q u).joining;
+    stage = stage_told (λ x y. (told x y).stage) q u;
+  }
 
 -- ---- destructors
 

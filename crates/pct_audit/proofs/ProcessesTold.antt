@@ -1,5 +1,5 @@
 -- What processes have, after an event more: the owners of mutexes, and the states of once controls.
-use Rattle.std.proofs.Common.{◌≡◌, ℕ, ◌<◌, ◌^◌, Bool, true, false, cond, refl, sym, ap, ◌∙◌, nat_eq}
+use Rattle.std.proofs.Common.{◌≡◌, ℕ, ◌<◌, ◌^◌, Bool, true, false, cond, refl, ap, ◌∙◌, nat_eq}
 use Rattle.std.proofs.lemmas.Bool.{eqb-true}
 use Rattle.pct_model.specs.declared.event.Event.{Event}
 use Rattle.pct_laws.specs.KnownThreads.{is_in, makes_process}

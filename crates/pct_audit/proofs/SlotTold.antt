@@ -1,5 +1,5 @@
 -- The law of thread ids and slots, by the threads that hold their slots.
-use Rattle.std.proofs.Common.{◌≡◌, ℕ, Bool, true, false, not, ◌&&◌, ◌||◌, List, refl, sym, ap, ◌∙◌, nat_eq, true≢false}
+use Rattle.std.proofs.Common.{◌≡◌, ℕ, Bool, true, false, not, ◌&&◌, ◌||◌, List, refl, sym, ◌∙◌, nat_eq, true≢false}
 use Rattle.std.specs.List.{list_all}
 use Rattle.std.proofs.lemmas.Bool.{and_parts}
 use Rattle.pct_model.specs.declared.event.Event.{Event}
@@ -38,7 +38,7 @@ module _ (slots pid id : ℕ) (events : List Event) (holds : ℕ → ℕ → ℕ
       let live = and_parts (is_known pid tid events) (not (is_reclaimed pid tid events)) parts.0 in
       no_other (list_all (leaves_slot slots pid id events) (known_ids pid events))
       (λ all. true≢false (sym (member_passes (leaves_slot slots pid id events) (known_ids pid events) tid all (among_known tid pid events ∙ live.0))
-        ∙ holds_still (is_reclaimed pid tid events) (nat_eq (slot_of slots tid) (slot_of slots id)) live.1 parts.1))
+      ∙ holds_still (is_reclaimed pid tid events) (nat_eq (slot_of slots tid) (slot_of slots id)) live.1 parts.1))
 
   -- the slot of an id is free exactly if each known thread leaves it
   pub free_told : (free : Bool) → (free ≡ true → (tid : ℕ) → holds pid (slot_of slots id) tid ≡ false) → (free ≡ false → (tid : ℕ) × (holds pid (slot_of slots id) tid ≡ true))

@@ -1,6 +1,6 @@
 -- Facts on stacks that share nodes.
-use Rattle.std.proofs.Common.{◌≡◌, ◌≢◌, ℕ, suc, ◌+◌, ◌-◌, ◌<◌, ◌≤◌, List, [], ◌∷◌, ◌++◌, length, Some, refl, sym, ap, ◌∙◌, subst, arith, get_or, length-append, ◌⊎◌, inl, inr}
-use Rattle.std.specs.Prelude.{slice_get, unwrap_or}
+use Rattle.std.proofs.Common.{◌≡◌, ◌≢◌, ℕ, ◌+◌, ◌-◌, ◌<◌, ◌≤◌, List, [], ◌∷◌, ◌++◌, length, Some, refl, sym, ap, ◌∙◌, subst, arith, get_or, length-append, ◌⊎◌, inl, inr}
+use Rattle.std.specs.Prelude.{slice_get}
 use Rattle.std.proofs.Math.ListN.{get_or-append}
 use Rattle.std.proofs.Math.Seq.{get_or-append_seam}
 use Rattle.std.proofs.lemmas.Option.{unwrap_or-slice_get, slice_get_within, get_or_from_slice_get, slice_get_read}
@@ -52,8 +52,9 @@ nodes-push nodes n below depth few are =
     record {
       count = more_stacks nodes n are.count;
       tops = λ k m at.
-        subst (λ stacks. IsTop stacks k m) (sym (stacks-push nodes n))
-        (place nodes n below depth few are k m (slice_get_within (nodes ++ n ∷ []) k m at) at (cases_lt k (length nodes))) }
+          subst (λ stacks. IsTop stacks k m) (sym (stacks-push nodes n))
+          (place nodes n below depth few are k m (slice_get_within (nodes ++ n ∷ []) k m at) at (cases_lt k (length nodes)));
+    }
   where
     place : (nodes : List Node) (n : Node) → n.below ≤ length nodes → n.depth ≡ length (stack_at (stacks_of nodes) n.below) + 1 → n.depth ≤ length nodes + 1 → AreStacks nodes
         → (k : ℕ) (m : Node) → k < length (nodes ++ n ∷ []) → slice_get (nodes ++ n ∷ []) k ≡ Some m → (k < length nodes) ⊎ (length nodes ≤ k)
@@ -69,8 +70,12 @@ nodes-push nodes n below depth few are =
         let top = (n.f, n.a) ∷ stack_at all n.below in
         let old : stack_at (all ++ top ∷ []) n.below ≡ stack_at all n.below = front all (top ∷ []) n.below (omega (arith, below, are.count)) in
         subst (λ x. IsTop (all ++ top ∷ []) k x) same
-        (record { below = omega (arith, below, is_last); depth = depth ∙ ap (λ s. length s + 1) (sym old); few = omega (arith, few, is_last);
-          is = last all top (k + 1) (omega (arith, is_last, are.count)) ∙ ap (λ s. (n.f, n.a) ∷ s) (sym old) })
+        (record {
+          below = omega (arith, below, is_last);
+          depth = depth ∙ ap (λ s. length s + 1) (sym old);
+          few = omega (arith, few, is_last);
+          is = last all top (k + 1) (omega (arith, is_last, are.count)) ∙ ap (λ s. (n.f, n.a) ∷ s) (sym old);
+        })
 
 -- what a node says of the stack with the number i
 pub top_at : (nodes : List Node) (i : ℕ) (n : Node) → AreStacks nodes → i ≢ 0 → i < length (stacks_of nodes) → n ≡ get_or nodes (i - 1) n → IsTop (stacks_of nodes) (i - 1) n

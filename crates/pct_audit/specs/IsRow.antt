@@ -4,7 +4,7 @@ use Rattle.pct_model.specs.declared.event.Event.{Event}
 use Rattle.pct_model.specs.declared.event.What.{What}
 use Rattle.pct_model.specs.declared.event.What.TheVariants as what
 use Rattle.pct_model.specs.ThreadCalls.{join_point}
-use Rattle.pct_laws.specs.KnownThreads.{is_known, is_detached, is_joined}
+use Rattle.pct_laws.specs.KnownThreads.{is_known, is_detached, is_joined, reports_end}
 use Rattle.pct_laws.specs.NewestEvents.{newest_is, reports_call}
 use Rattle.pct_laws.specs.ThreadSummary.{ThreadSummary, summary_of}
 use Rattle.pct_laws.specs.WaitStages.{stage_after, wait_stage}
@@ -62,10 +62,12 @@ pub record IsOwnChange (w : What) (row next : Row) : Type 0 where
   pub joined : next.joined ≡ row.joined
   pub joining : next.joining ≡ reports_call join_point w
   pub stage : next.stage ≡ stage_after w row.stage
+  pub ended : reports_end w ≡ false → next.ended ≡ row.ended
 
--- the other parts stay
-pub record KeepsMarks (row next : Row) : Type 0 where
+-- an event of a thread leaves these parts of its row
+pub record KeepsMarks (w : What) (row next : Row) : Type 0 where
   pub known : next.known ≡ row.known
   pub detached : next.detached ≡ row.detached
   pub joined : next.joined ≡ row.joined
   pub stage : next.stage ≡ row.stage
+  pub ended : reports_end w ≡ false → next.ended ≡ row.ended

@@ -1,7 +1,6 @@
 -- The law of joins, by what is kept of the threads.
 use Rattle.std.specs.Prelude.{ℕ, Bool, true, false, not, ◌&&◌, ◌||◌, is_some, nat_eq}
 use Rattle.std.specs.Option.{option_map_or}
-use Rattle.pct_model.specs.declared.event.Event.{Event}
 use Rattle.pct_model.specs.declared.event.What.{What}
 use Rattle.pct_model.specs.declared.event.What.TheVariants as what
 use Rattle.pct_audit.specs.declared.rows.Row.{Row}

@@ -6,7 +6,6 @@ pub mod CleanupTests
 pub mod DestroyedKeys
 pub mod DestroyedEvents
 pub mod CondTests
-pub mod ControlTests
 pub mod ControlStates
 pub mod Controls
 pub mod JoinTests

@@ -10,8 +10,17 @@ use Rattle.pct_audit.specs.declared.rows.Rows.{Rows}
 -- the row of a thread without events
 abbrev pub no_events_row : ℕ → ℕ → Row
 no_events_row pid tid = record {
-    handlers = 0; left = 0; reason = reason.None; ended = None; passes = 0;
-    known = nat_eq 1 pid && nat_eq 1 tid; detached = false; joined = false; joining = false; stage = NoWait }
+  handlers = 0;
+  left = 0;
+  reason = reason.None;
+  ended = None;
+  passes = 0;
+  known = nat_eq 1 pid && nat_eq 1 tid;
+  detached = false;
+  joined = false;
+  joining = false;
+  stage = NoWait;
+}
 
 -- the row of a thread in a map
 abbrev pub row_in : BTreeMap (ℕ × ℕ) Row → ℕ → ℕ → Row

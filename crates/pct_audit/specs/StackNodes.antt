@@ -1,5 +1,5 @@
 -- Stacks as nodes that share what is below them.
-use Rattle.std.specs.Prelude.{◌≡◌, ℕ, suc, ◌≤◌, ◌+◌, List, [], ◌∷◌, ◌++◌, length, Some, slice_get}
+use Rattle.std.specs.Prelude.{◌≡◌, ℕ, ◌≤◌, ◌+◌, List, [], ◌∷◌, ◌++◌, length, Some, slice_get}
 use Rattle.pct_audit.specs.declared.stacks.Node.{Node}
 use Rattle.pct_audit.specs.Stacks.{stack_at}
 

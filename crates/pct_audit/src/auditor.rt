@@ -1,6 +1,6 @@
 //! The audit of events.
 
-ghost use Rattle.std.specs.Prelude.{◌≡◌, ◌<◌, ◌^◌, IfOk, List, ℕ, None, length};
+ghost use Rattle.std.specs.Prelude.{◌≡◌, ◌<◌, ◌^◌, IfOk, List, None, length};
 ghost use Rattle.pct_model.specs.declared.event.Event.{Event as AnEvent};
 ghost use Rattle.pct_audit.specs.AuditOf.{IsAuditOf, first_broken_by};
 ghost use Rattle.pct_audit.specs.Tells.{Tells};
@@ -32,11 +32,17 @@ fn broken_by(judge: &Judge, passes: u32, event: Event) -> Option<Law>
 }
 
 /// The first event at which one of the laws fails, and the first law that fails there; `None` if the events keep the laws. The events
-/// are listed oldest first; passes is the limit on the passes over destructors, and slots the number of thread slots of a process.
+/// are listed oldest first, and are fewer than 2 ^ 32; `passes` is the limit on the passes over destructors, and `slots` the number of
+/// thread slots of a process, at least 1.
 ///
-/// `NoMemory` means that the memory for what is kept of the events ran out. The time is that of a search in a table for each event, and
-/// the memory is bounded by a constant for each event, whatever the events are.
-pub fn audit(alloc: Global, passes: u32, slots: u32, events: &[Event]) -> Result<Option<AuditFault>, NoMemory>
+/// `NoMemory` means that the memory for what is kept of the events ran out. An event costs a few searches in tables and a bounded amount
+/// of memory, whatever the events are.
+pub fn audit(
+    alloc: Global,
+    passes: u32,
+    slots: u32,
+    events: &[Event],
+) -> Result<Option<AuditFault>, NoMemory>
     requires slots { 0 < slots }
     requires count { length events.now < 2 ^ 32 }
     ensures { IfOk result (λ found. IsAuditOf passes slots events.now found) }

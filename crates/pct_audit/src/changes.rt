@@ -32,7 +32,7 @@ fn own_row(stacks: &mut Stacks, row: Row, what: What) -> Result<Row, NoMemory>
     requires handlers { row.handlers < length stacks.old }
     requires left { row.left < length stacks.old }
     ensures stacks { OnOk result (Grows stacks.old stacks.new) }
-    ensures marks { IfOk result (λ next. KeepsMarks row next) }
+    ensures marks { IfOk result (λ next. KeepsMarks what row next) }
     ensures row { IfOk result (λ next. (passes : ℕ) (s : ThreadSummary) → IsRow stacks.old row s → may_come passes what s ≡ true → IsRow stacks.new next (with_event what s)) }
 {
     match what {
@@ -47,7 +47,11 @@ fn own_row(stacks: &mut Stacks, row: Row, what: What) -> Result<Row, NoMemory>
         What::HandlerRun(_, _) => {
             let handlers = stacks.below(row.handlers);
             let left = stacks.below(row.left);
-            Ok(Row { handlers, left, ..row })
+            Ok(Row {
+                handlers,
+                left,
+                ..row
+            })
         }
         What::EndingExit(value) => Ok(Row {
             reason: Reason::Exit(value),
@@ -85,13 +89,34 @@ fn next_stage(what: What, stage: WaitStage) -> WaitStage
         (What::Released(m), WaitStage::AtCall { timed }) => WaitStage::InWait { timed, mutex: m },
         (What::Acquired(_), WaitStage::InWait { timed, .. }) => WaitStage::ToReturn { timed },
         (What::Acquired(_), WaitStage::Expired { .. }) => WaitStage::ToTimeOut,
-        (What::Acquired(_), WaitStage::Leaving { cond, mutex, .. }) => WaitStage::ToEnd { cond, mutex },
-        (What::Acquired(_), WaitStage::Left { cond, mutex, .. }) => WaitStage::ToEnd { cond, mutex },
-        (What::WaitExpired(cond), WaitStage::InWait { timed: true, mutex }) => WaitStage::Expired { cond, mutex },
-        (What::WaitCanceled(cond), WaitStage::InWait { timed, mutex }) => WaitStage::Leaving { timed, cond, mutex },
-        (What::WaitCanceled(_), WaitStage::Expired { cond, mutex }) => WaitStage::Left { timed: true, cond, mutex },
+        (What::Acquired(_), WaitStage::Leaving { cond, mutex, .. }) => WaitStage::ToEnd {
+            cond,
+            mutex,
+        },
+        (What::Acquired(_), WaitStage::Left { cond, mutex, .. }) => WaitStage::ToEnd {
+            cond,
+            mutex,
+        },
+        (What::WaitExpired(cond), WaitStage::InWait { timed: true, mutex }) => WaitStage::Expired {
+            cond,
+            mutex,
+        },
+        (What::WaitCanceled(cond), WaitStage::InWait { timed, mutex }) => WaitStage::Leaving {
+            timed,
+            cond,
+            mutex,
+        },
+        (What::WaitCanceled(_), WaitStage::Expired { cond, mutex }) => WaitStage::Left {
+            timed: true,
+            cond,
+            mutex,
+        },
         (What::HandedOn(c, _), WaitStage::Leaving { timed, cond, mutex }) => {
-            if c == cond { WaitStage::Left { timed, cond, mutex } } else { WaitStage::NoWait }
+            if c == cond {
+                WaitStage::Left { timed, cond, mutex }
+            } else {
+                WaitStage::NoWait
+            }
         }
         _ => WaitStage::NoWait,
     }
@@ -158,11 +183,25 @@ pub fn mark(rows: &mut Rows, pid: u32, what: What) -> Result<(), NoMemory>
         }
         What::Detached(id) => {
             let row = rows.at(pid, id);
-            rows.set(pid, id, Row { detached: true, ..row })
+            rows.set(
+                pid,
+                id,
+                Row {
+                    detached: true,
+                    ..row
+                },
+            )
         }
         What::Joined(id, _) => {
             let row = rows.at(pid, id);
-            rows.set(pid, id, Row { joined: true, ..row })
+            rows.set(
+                pid,
+                id,
+                Row {
+                    joined: true,
+                    ..row
+                },
+            )
         }
         _ => Ok(()),
     }

@@ -43,24 +43,26 @@ pub fn may_come(passes: u32, what: What, thread: &Snapshot, destroyed: bool) -> 
     ensures { result ≡ allows passes what thread.now destroyed }
 {
     match what {
-        What::Popped { f, a, .. } =>
-            is_same(f, a, thread.newest) && (!has_begun(thread.reason) || thread.left < thread.pushed),
-        What::HandlerRun(f, a) =>
-            is_same(f, a, thread.newest) && has_begun(thread.reason) && thread.pushed == thread.left,
+        What::Popped { f, a, .. } => is_same(f, a, thread.newest)
+            && (!has_begun(thread.reason) || thread.left < thread.pushed),
+        What::HandlerRun(f, a) => is_same(f, a, thread.newest)
+            && has_begun(thread.reason)
+            && thread.pushed == thread.left,
         What::EndingExit(_) => !has_begun(thread.reason),
         What::EndingCanceled => !has_begun(thread.reason),
         What::EndingInWait(_, _) => !has_begun(thread.reason),
-        What::EndedWith(value) =>
-            has_begun(thread.reason)
-                && thread.ended.is_none()
-                && thread.pushed == 0
-                && value == value_of_end(thread.reason),
-        What::PassBegun(number) =>
-            has_begun(thread.reason)
-                && thread.pushed == 0
-                && (number > 0 && number - 1 == thread.passes)
-                && number <= passes,
-        What::DtorRun { pass, .. } => pass == thread.passes && 0 < pass && thread.pushed == 0 && !destroyed,
+        What::EndedWith(value) => has_begun(thread.reason)
+            && thread.ended.is_none()
+            && thread.pushed == 0
+            && value == value_of_end(thread.reason),
+        What::PassBegun(number) => has_begun(thread.reason)
+            && thread.pushed == 0
+            && (number > 0 && number - 1 == thread.passes)
+            && number <= passes,
+        What::DtorRun { pass, .. } => pass == thread.passes
+            && 0 < pass
+            && thread.pushed == 0
+            && !destroyed,
         What::Leftover(count) => 0 < count && thread.passes == passes,
         _ => true,
     }

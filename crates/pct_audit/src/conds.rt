@@ -1,12 +1,12 @@
 //! The law of mutexes and condition waits.
 
-ghost use Rattle.std.specs.Prelude.{◌≡◌, ℕ, ◌<◌, ◌^◌, ◌&&◌, if◌then◌else◌, OnOk, nat_eq};
-ghost use Rattle.pct_laws.specs.CondLaw.{may_own, has_just_left, may_hand_on};
+ghost use Rattle.std.specs.Prelude.{◌≡◌, ℕ, ◌<◌, ◌^◌, if◌then◌else◌, OnOk, nat_eq};
+ghost use Rattle.pct_laws.specs.CondLaw.{has_just_left, may_hand_on};
 ghost use Rattle.pct_laws.specs.KnownThreads.{makes_process};
 ghost use Rattle.pct_laws.specs.MutexOwners.{owner_after};
 ghost use Rattle.pct_laws.specs.WaitStages.{may_follow_stage, acquires, cancels_wait, cancels_wait_on, expires_wait, hands_on_signal, returns_from_wait, returns_timed_out, ends_in_wait, wait_point};
 ghost use Rattle.pct_process_maps.specs.Values.{value_in};
-ghost use Rattle.pct_audit.specs.CondTests.{listed, mutex_in};
+ghost use Rattle.pct_audit.specs.CondTests.{listed};
 
 use crate::changes::child_of;
 use pct_io::NoMemory;
@@ -25,35 +25,18 @@ pub fn fork_owners(owners: &mut ProcessMaps, pid: u32, what: What) -> Result<(),
 }
 
 /// An event of a thread changes the owners of its process.
-pub fn change_owners(owners: &mut ProcessMaps, pid: u32, tid: u32, what: What) -> Result<(), NoMemory>
+pub fn change_owners(
+    owners: &mut ProcessMaps,
+    pid: u32,
+    tid: u32,
+    what: What,
+) -> Result<(), NoMemory>
     ensures { OnOk result ((q k : ℕ) → k < 2 ^ 32 → value_in owners.new q k ≡ (if nat_eq pid q then owner_after k tid what (value_in owners.old q k) else value_in owners.old q k)) }
 {
     match what {
-        What::Acquired(m) => owners.set(pid, m, tid as usize),
+        What::Acquired(m) => owners.set(pid, m, tid),
         What::Released(m) => owners.set(pid, m, 0),
         _ => Ok(()),
-    }
-}
-
-/// The mutex of an event, or 0.
-pub fn mutex_of(what: What) -> u32
-    ensures { result ≡ mutex_in what }
-{
-    match what {
-        What::Acquired(m) => m,
-        What::Released(m) => m,
-        _ => 0,
-    }
-}
-
-/// Whether an event of a thread may come, by the owner of its mutex.
-pub fn may_own(owner: usize, tid: u32, what: What) -> bool
-    ensures { result ≡ may_own what tid (λ _. owner) }
-{
-    match what {
-        What::Acquired(_) => owner == 0,
-        What::Released(_) => owner == tid as usize,
-        _ => true,
     }
 }
 
@@ -64,12 +47,14 @@ pub fn may_follow(stage: WaitStage, what: What) -> bool
     match stage {
         WaitStage::NoWait => true,
         WaitStage::AtCall { .. } => true,
-        WaitStage::InWait { timed, mutex } =>
-            acquires(mutex, what) || cancels_wait(what) || (timed && expires_wait(what)),
+        WaitStage::InWait { timed, mutex } => acquires(mutex, what)
+            || cancels_wait(what)
+            || (timed && expires_wait(what)),
         WaitStage::ToReturn { timed } => returns_from_wait(timed, what),
         WaitStage::Expired { cond, mutex } => acquires(mutex, what) || cancels_wait_on(cond, what),
         WaitStage::ToTimeOut => returns_timed_out(what),
-        WaitStage::Leaving { cond, mutex, .. } => acquires(mutex, what) || hands_on_signal(cond, what),
+        WaitStage::Leaving { cond, mutex, .. } => acquires(mutex, what)
+            || hands_on_signal(cond, what),
         WaitStage::Left { mutex, .. } => acquires(mutex, what),
         WaitStage::ToEnd { cond, mutex } => ends_in_wait(cond, mutex, what),
     }
@@ -124,7 +109,11 @@ fn hands_on_signal(c: u32, what: What) -> bool
 fn wait_point(timed: bool) -> u32
     ensures { result ≡ wait_point timed }
 {
-    if timed { COND_TIMEDWAIT_POINT } else { COND_WAIT_POINT }
+    if timed {
+        COND_TIMEDWAIT_POINT
+    } else {
+        COND_WAIT_POINT
+    }
 }
 
 fn returns_from_wait(timed: bool, what: What) -> bool
@@ -140,7 +129,10 @@ fn returns_timed_out(what: What) -> bool
     ensures { result ≡ returns_timed_out what }
 {
     match what {
-        What::Answer { call: Caller::CondTimedWait, number } => number == ETIMEDOUT,
+        What::Answer {
+            call: Caller::CondTimedWait,
+            number,
+        } => number == ETIMEDOUT,
         _ => false,
     }
 }

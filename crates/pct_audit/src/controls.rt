@@ -1,11 +1,10 @@
 //! The states of once controls.
 
-ghost use Rattle.std.specs.Prelude.{◌≡◌, ℕ, ◌<◌, ◌^◌, ◌&&◌, if◌then◌else◌, nat_eq, IfOk, OnOk};
+ghost use Rattle.std.specs.Prelude.{◌≡◌, ℕ, ◌<◌, ◌^◌, ◌&&◌, if◌then◌else◌, nat_eq, IfOk, OnOk, length};
 ghost use Rattle.pct_model.specs.declared.state.OnceState.TheVariants as once_state;
 ghost use Rattle.pct_laws.specs.KnownThreads.{makes_process};
 ghost use Rattle.pct_laws.specs.OnceControls.{given_up, once_after};
-ghost use Rattle.pct_laws.specs.OnceLaw.{may_come};
-ghost use Rattle.pct_audit.specs.ControlTests.{control_in};
+ghost use Rattle.pct_laws.specs.OnceLaw.{may_call, may_return};
 ghost use Rattle.pct_audit.specs.ControlStates.{AreControls, AreControls-prop};
 
 use crate::changes::child_of;
@@ -48,7 +47,7 @@ impl Controls {
         ensures { result ≡ state_in self.now pid o }
     {
         let index = self.indexes.get(pid, o);
-        match self.states.get(index) {
+        match self.states.get(index as usize) {
             None => OnceState::Fresh,
             Some(OnceState::Busy(tid)) => {
                 if index < self.ends.get(pid, *tid) {
@@ -61,11 +60,22 @@ impl Controls {
         }
     }
 
+    // The number of states. There is no memory for 2 ^ 32 of them.
+    fn count(&self) -> Result<u32, NoMemory>
+        ensures { IfOk result (λ count. count ≡ length self.now.states.items) }
+    {
+        if self.states.len() <= u32::MAX as usize {
+            Ok(self.states.len() as u32)
+        } else {
+            Err(NoMemory)
+        }
+    }
+
     // Gives a control another state.
     fn set(&mut self, pid: u32, o: u32, state: OnceState) -> Result<(), NoMemory>
         ensures { OnOk result ((q k : ℕ) → k < 2 ^ 32 → state_in self.new q k ≡ (if nat_eq pid q && nat_eq o k then state else state_in self.old q k)) }
     {
-        let index = self.states.len();
+        let index = self.count()?;
         self.states.push(state)?;
         self.indexes.set(pid, o, index)
     }
@@ -74,7 +84,8 @@ impl Controls {
     fn give_up(&mut self, pid: u32, tid: u32) -> Result<(), NoMemory>
         ensures { OnOk result ((q k : ℕ) → k < 2 ^ 32 → state_in self.new q k ≡ (if nat_eq pid q then given_up tid (state_in self.old q k) else state_in self.old q k)) }
     {
-        self.ends.set(pid, tid, self.states.len())
+        let count = self.count()?;
+        self.ends.set(pid, tid, count)
     }
 
     /// A fork gives the new process the states of its parent.
@@ -103,26 +114,22 @@ impl Controls {
     }
 }
 
-/// The control of an event, or 0.
-pub fn control_of(what: What) -> u32
-    ensures { result ≡ control_in what }
+/// Whether the init routine of a control in a state may be called.
+pub fn may_call(state: OnceState) -> bool
+    ensures { result ≡ may_call state }
 {
-    match what {
-        What::OnceCalled(o) => o,
-        What::OnceDone(o) => o,
-        _ => 0,
+    match state {
+        OnceState::Fresh => true,
+        _ => false,
     }
 }
 
-/// Whether an event of a thread may come, by the state of its control.
-pub fn may_call_once(state: OnceState, tid: u32, what: What) -> bool
-    ensures { result ≡ may_come what tid (λ _. state) }
+/// Whether it may return in a thread.
+pub fn may_return(state: OnceState, tid: u32) -> bool
+    ensures { result ≡ may_return tid state }
 {
-    match (what, state) {
-        (What::OnceCalled(_), OnceState::Fresh) => true,
-        (What::OnceCalled(_), _) => false,
-        (What::OnceDone(_), OnceState::Busy(id)) => id == tid,
-        (What::OnceDone(_), _) => false,
-        _ => true,
+    match state {
+        OnceState::Busy(id) => id == tid,
+        _ => false,
     }
 }

@@ -13,7 +13,8 @@ pub fn may_name(rows: &Rows, event: Event) -> bool
 {
     let pid = event.pid;
     match event.what {
-        What::Joined(id, value) => rows.at(pid, id).can_be_joined(value) && rows.at(pid, event.tid).joining,
+        What::Joined(id, value) => rows.at(pid, id).can_be_joined(value)
+            && rows.at(pid, event.tid).joining,
         What::Request(id) => rows.at(pid, id).is_live(),
         What::Detached(id) => rows.at(pid, id).is_live(),
         _ => true,

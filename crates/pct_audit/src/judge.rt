@@ -13,12 +13,12 @@ ghost use Rattle.pct_audit.specs.CleanupTests.{snapshot_of};
 
 use crate::changes::{mark, next_row, replicate};
 use crate::cleanup::may_come;
-use crate::conds::{change_owners, fork_owners, may_follow, may_hand_on, may_own, mutex_of};
-use crate::controls::{Controls, control_of, may_call_once};
+use crate::conds::{change_owners, fork_owners, may_follow, may_hand_on};
+use crate::controls::{Controls, may_call, may_return};
 use crate::destroyed::Destroyed;
 use crate::joins::may_name;
 use crate::rows::Rows;
-use crate::slots::{refresh, refresh_named, refresh_replica, slot_of};
+use crate::slots::{refresh_named, refresh_own, refresh_replica, slot_of};
 use crate::snapshot::Snapshot;
 use crate::stacks::Stacks;
 use pct_holders::Holders;
@@ -80,9 +80,21 @@ impl Judge {
         change_owners(&mut self.owners, event.pid, event.tid, event.what)?;
         self.controls.fork(event.pid, event.what)?;
         self.controls.change(event.pid, event.tid, event.what)?;
-        refresh(&mut self.holders, &self.rows, self.slots, event.pid, event.tid)?;
-        refresh_named(&mut self.holders, &self.rows, self.slots, event.pid, event.what)?;
-        refresh_replica(&mut self.holders, &self.rows, self.slots, event.tid, event.what)?;
+        refresh_own(&mut self.holders, &self.rows, self.slots, event)?;
+        refresh_named(
+            &mut self.holders,
+            &self.rows,
+            self.slots,
+            event.pid,
+            event.what,
+        )?;
+        refresh_replica(
+            &mut self.holders,
+            &self.rows,
+            self.slots,
+            event.tid,
+            event.what,
+        )?;
         self.last = Some(event);
         Ok(())
     }
@@ -150,22 +162,33 @@ impl Judge {
         may_name(&self.rows, event)
     }
 
+    // Whether an event may come with the owners of mutexes.
+    fn owners_allow(&self, event: Event) -> bool
+        ensures { (events : List Event) → Tells self.now events → result ≡ CondLaw.owners_allow event events }
+    {
+        match event.what {
+            What::Acquired(m) => self.owners.get(event.pid, m) == 0,
+            What::Released(m) => self.owners.get(event.pid, m) == event.tid,
+            _ => true,
+        }
+    }
+
     /// Whether the law of mutexes and condition waits allows an event.
     pub fn allows_cond(&self, event: Event) -> bool
         ensures { (events : List Event) → Tells self.now events → result ≡ CondLaw.allows event events }
     {
-        let owner = self.owners.get(event.pid, mutex_of(event.what));
         let stage = self.rows.at(event.pid, event.tid).stage;
-        may_own(owner, event.tid, event.what)
-            && may_follow(stage, event.what)
-            && may_hand_on(self.last, event)
+        self.owners_allow(event) && may_follow(stage, event.what) && may_hand_on(self.last, event)
     }
 
     /// Whether the law of pthread_once allows an event.
     pub fn allows_call_once(&self, event: Event) -> bool
         ensures { (events : List Event) → Tells self.now events → result ≡ OnceLaw.allows event events }
     {
-        let state = self.controls.state(event.pid, control_of(event.what));
-        may_call_once(state, event.tid, event.what)
+        match event.what {
+            What::OnceCalled(o) => may_call(self.controls.state(event.pid, o)),
+            What::OnceDone(o) => may_return(self.controls.state(event.pid, o), event.tid),
+            _ => true,
+        }
     }
 }

@@ -1,7 +1,7 @@
 //! The laws that are judged.
 
 /// A law, in the order in which the laws are asked.
-#[derive(Clone, Copy, Debug, PartialEq, Eq)]
+#[derive(Clone, Copy)]
 pub enum Law {
     /// The law of cleanup handlers and destructors: each runs at most once, the newest handler first.
     Once,
@@ -16,7 +16,7 @@ pub enum Law {
 }
 
 /// The first event at which a law fails, and the first law that fails there. Events are numbered from 1.
-#[derive(Clone, Copy, Debug, PartialEq, Eq)]
+#[derive(Clone, Copy)]
 pub struct AuditFault {
     pub event: u32,
     pub law: Law,

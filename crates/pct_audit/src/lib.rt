@@ -7,14 +7,13 @@ mod cleanup;
 mod conds;
 mod controls;
 mod destroyed;
+mod joins;
 mod judge;
 mod law;
-mod joins;
 mod rows;
 mod slots;
 mod snapshot;
 mod stacks;
 
 pub use auditor::audit;
-pub use law::AuditFault;
-pub use law::Law;
+pub use law::{AuditFault, Law};

@@ -2,7 +2,7 @@
 
 ghost use Rattle.std.specs.Prelude.{◌≡◌, ℕ, ◌<◌, ◌&&◌, false, OnOk, if◌then◌else◌, nat_eq};
 ghost use Rattle.std.specs.Option.{option_map_or};
-ghost use Rattle.pct_laws.specs.KnownThreads.{makes_process};
+ghost use Rattle.pct_laws.specs.KnownThreads.{makes_process, reports_end};
 ghost use Rattle.pct_model.specs.ThreadSlots.{slot_of};
 ghost use Rattle.pct_holders.specs.Holds.{holds};
 ghost use Rattle.pct_audit.specs.IsRow.{names};
@@ -13,7 +13,7 @@ use crate::changes::child_of;
 use crate::rows::Rows;
 use pct_holders::Holders;
 use pct_io::NoMemory;
-use pct_model::What;
+use pct_model::{Event, What};
 
 /// The slot of a thread.
 pub fn slot_of(slots: u32, tid: u32) -> u32
@@ -36,8 +36,14 @@ fn named_by(what: What) -> Option<u32>
     }
 }
 
-/// Records whether a thread holds its slot, by its row.
-pub fn refresh(holders: &mut Holders, rows: &Rows, slots: u32, pid: u32, tid: u32) -> Result<(), NoMemory>
+// Records whether a thread holds its slot, by its row.
+fn refresh(
+    holders: &mut Holders,
+    rows: &Rows,
+    slots: u32,
+    pid: u32,
+    tid: u32,
+) -> Result<(), NoMemory>
     requires { 0 < slots }
     ensures { OnOk result ((p s t : ℕ) → holds holders.new p s t ≡ (if (nat_eq pid p && nat_eq tid t) && nat_eq (slot_of slots t) s then is_live (row_of rows.now p t) else holds holders.old p s t)) }
 {
@@ -45,8 +51,30 @@ pub fn refresh(holders: &mut Holders, rows: &Rows, slots: u32, pid: u32, tid: u3
     holders.set(pid, slot_of(slots, tid), tid, is_holder)
 }
 
+/// Records it of the thread of an event, if that is its end: its other events change nothing of it.
+pub fn refresh_own(
+    holders: &mut Holders,
+    rows: &Rows,
+    slots: u32,
+    event: Event,
+) -> Result<(), NoMemory>
+    requires { 0 < slots }
+    ensures { OnOk result ((p s t : ℕ) → holds holders.new p s t ≡ (if ((nat_eq event.pid p && nat_eq event.tid t) && reports_end event.what) && nat_eq (slot_of slots t) s then is_live (row_of rows.now p t) else holds holders.old p s t)) }
+{
+    match event.what {
+        What::EndedWith(_) => refresh(holders, rows, slots, event.pid, event.tid),
+        _ => Ok(()),
+    }
+}
+
 /// Records it of the thread that an event names.
-pub fn refresh_named(holders: &mut Holders, rows: &Rows, slots: u32, pid: u32, what: What) -> Result<(), NoMemory>
+pub fn refresh_named(
+    holders: &mut Holders,
+    rows: &Rows,
+    slots: u32,
+    pid: u32,
+    what: What,
+) -> Result<(), NoMemory>
     requires { 0 < slots }
     ensures { OnOk result ((p s t : ℕ) → holds holders.new p s t ≡ (if (nat_eq pid p && names t what) && nat_eq (slot_of slots t) s then is_live (row_of rows.now p t) else holds holders.old p s t)) }
 {
@@ -57,7 +85,13 @@ pub fn refresh_named(holders: &mut Holders, rows: &Rows, slots: u32, pid: u32, w
 }
 
 /// Records it of the replica that an event makes.
-pub fn refresh_replica(holders: &mut Holders, rows: &Rows, slots: u32, tid: u32, what: What) -> Result<(), NoMemory>
+pub fn refresh_replica(
+    holders: &mut Holders,
+    rows: &Rows,
+    slots: u32,
+    tid: u32,
+    what: What,
+) -> Result<(), NoMemory>
     requires { 0 < slots }
     ensures { OnOk result ((p s t : ℕ) → holds holders.new p s t ≡ (if (nat_eq tid t && makes_process p what) && nat_eq (slot_of slots t) s then is_live (row_of rows.now p t) else holds holders.old p s t)) }
 {

@@ -1,6 +1,6 @@
 //! Stacks of handlers that share what is below their tops.
 
-ghost use Rattle.std.specs.Prelude.{◌≡◌, ℕ, ◌<◌, ◌≤◌, List, [], ◌∷◌, ◌++◌, length, OnOk, OnErr, IfOk, Some};
+ghost use Rattle.std.specs.Prelude.{◌≡◌, ℕ, ◌<◌, ◌≤◌, List, [], ◌∷◌, ◌++◌, length, OnOk, IfOk};
 ghost use Rattle.pct_model.specs.Actions.{without_first};
 ghost use Rattle.pct_audit.specs.Stacks.{newest};
 
@@ -68,7 +68,11 @@ impl Stacks {
         ensures depth { result ≡ length (stack_at self.now stack) }
         ensures few { result ≤ stack }
     {
-        if stack == 0 { 0 } else { self.nodes[stack - 1].depth }
+        if stack == 0 {
+            0
+        } else {
+            self.nodes[stack - 1].depth
+        }
     }
 
     /// The newest handler on a stack.
@@ -90,6 +94,10 @@ impl Stacks {
         ensures number { result < length self.now }
         ensures stack { stack_at self.now result ≡ without_first (stack_at self.now stack) }
     {
-        if stack == 0 { 0 } else { self.nodes[stack - 1].below }
+        if stack == 0 {
+            0
+        } else {
+            self.nodes[stack - 1].below
+        }
     }
 }

@@ -1,13 +1,15 @@
 //! Writing of an answer.
 
-ghost use Rattle.std.specs.Prelude.{[], ◌∷◌, ◌++◌, map};
+ghost use Rattle.std.specs.Prelude.{◌≡◌, [], ◌∷◌, ◌++◌, map};
 ghost use Rattle.std.specs.List.{join_with_byte};
 ghost use Rattle.pct_io.specs.Writes.{Writes};
 ghost use Rattle.pct_io.specs.Fields.{field_text};
 ghost use Rattle.pct_model.specs.Keywords.{line_text};
-ghost use Rattle.pct_command.specs.Answer.{line_of_refusal, text_of_answer};
+ghost use Rattle.pct_command.specs.Answer.{line_of_refusal, status_of_answer, text_of_answer};
+ghost use Rattle.pct_command.specs.Status.{IsAnswered};
 
 use crate::answers::{Answer, Refusal};
+use crate::status::Status;
 use pct_cancel::write_points;
 use pct_demo::write_summary;
 use pct_io::{BufferedSink, Failed, Field, Sink, write_line};
@@ -18,9 +20,19 @@ use pct_report::write_report;
 use pct_report_audit::write_audit;
 use pct_tallies::write_tally;
 
-/// Writes an answer: the line of a refusal, the report of a run, the canonical text of a script, the table of cancellation points,
-/// the summary of a run, a tally of runs, a judgement, or an audit.
-pub(crate) fn write_answer<K: Sink>(answer: &Answer, sink: &mut K) -> Result<(), Failed>
+/// Writes an answer, which is dropped, and returns its status and whether it was written. One function owns the answer and lends it: what is
+/// to be proved of that is large.
+pub(crate) fn give_answer<K: Sink>(answer: Answer, sink: &mut K) -> (Status, Result<(), Failed>)
+    ensures status { result.0 ≡ status_of_answer answer }
+    ensures answered { IsAnswered result.0 }
+    ensures written { Writes K.written K.errors K.inners sink.old sink.new (text_of_answer answer) result.1 }
+{
+    (answer.status(), write_answer(&answer, sink))
+}
+
+// Writes an answer: the line of a refusal, the report of a run, the canonical text of a script, the table of cancellation points,
+// the summary of a run, a tally of runs, a judgement, or an audit.
+fn write_answer<K: Sink>(answer: &Answer, sink: &mut K) -> Result<(), Failed>
     ensures { Writes K.written K.errors K.inners sink.old sink.new (text_of_answer answer.now) result }
 {
     match answer {

@@ -8,7 +8,7 @@ ghost use Rattle.pct_command.specs.Answer.{AnswersRead, IsDemonstrated, ReadsInp
 ghost use Rattle.pct_command.specs.Command.{Answers, HasRead, IsAnswer, IsComplete, Records};
 ghost use Rattle.pct_command.specs.Words.{Asks, HasInput, accepts, reads_input, takes_memory};
 
-use crate::answer_writer::write_answer;
+use crate::answer_writer::give_answer;
 use crate::answering::answer_of;
 use crate::answers::{Answer, Refusal, Unanswered};
 use crate::demo_command::demonstrate;
@@ -109,9 +109,9 @@ pub fn command<R: Threads + Sync, S: Source, K: Sink, G: Gate>(
 {
     let runtime = Runtime { rt, alloc, gate };
     match answer_words(&runtime, words, source) {
-        Ok(answer) => match write_answer(&answer, sink) {
-            Ok(()) => answer.status(),
-            Err(Failed) => Status::WriteFault,
+        Ok(answer) => match give_answer(answer, sink) {
+            (status, Ok(())) => status,
+            (_, Err(Failed)) => Status::WriteFault,
         },
         Err(Unanswered::ReadFault) => Status::ReadFault,
         Err(Unanswered::NoMemory) => Status::NoMemory,

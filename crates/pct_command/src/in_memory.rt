@@ -9,7 +9,7 @@ ghost use Rattle.pct_command.specs.Expectations.{HasReadParts, IsJudgedCode};
 ghost use Rattle.pct_command.specs.Status.{code_of};
 ghost use Rattle.pct_command.specs.Words.{Asks, HasInput, asks_audit, asks_expect};
 
-use crate::answer_writer::write_answer;
+use crate::answer_writer::give_answer;
 use crate::answering::answer_of;
 use crate::answers::{Answer, Refusal};
 use crate::demo_command::demonstrate;
@@ -49,9 +49,9 @@ pub fn answer<R: Threads + Sync>(
     };
     let answer = answer_bytes(&runtime, words, input)?;
     let mut text = TextSink::new(alloc);
-    match write_answer(&answer, &mut text) {
-        Ok(()) => Ok((answer.status(), text.into_bytes())),
-        Err(Failed) => Err(NoMemory),
+    match give_answer(answer, &mut text) {
+        (status, Ok(())) => Ok((status, text.into_bytes())),
+        (_, Err(Failed)) => Err(NoMemory),
     }
 }
 

@@ -82,11 +82,7 @@ fn write_answer<K: Sink>(answer: Judged, sink: &mut K) -> Result<(), Failed>
 /// Writes the line of a refused report, `refused report LINE WHY`.
 ///
 /// `Failed` means that the sink recorded one error, and that a prefix of the line was written. The call allocates no memory.
-pub fn write_report_refusal<K: Sink>(
-    line: u32,
-    why: ReportWhy,
-    sink: &mut K,
-) -> Result<(), Failed>
+pub fn write_report_refusal<K: Sink>(line: u32, why: ReportWhy, sink: &mut K) -> Result<(), Failed>
     ensures { Writes K.written K.errors K.inners sink.old sink.new (line_text (refused_report line why)) result }
 {
     write_refusal(b"report", line, text_of_why(why), sink)

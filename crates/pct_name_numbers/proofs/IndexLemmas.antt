@@ -59,3 +59,11 @@ module _ (names : List (List ℕ)) (w : List ℕ) (absent : index_among names w 
 
   pub index_of_new : index_among (names_with w names) w ≡ Some (length names)
   index_of_new = index-grown w ∙ ap (λ (t : Bool). cond t (Some (length names)) (index_among names w)) (bytes_eq-refl w)
+
+-- a name has an index among the names with it
+index_in_either : (names : List (List ℕ)) (w : List ℕ) (index : Option ℕ) → index_among names w ≡ index → (i : ℕ) × (index_among (names_with w names) w ≡ Some i)
+index_in_either names w None absent = (length names, index_of_new names w absent)
+index_in_either names w (Some i) at = (i, ap (λ (index : Option ℕ). index_among (cond (is_some index) names (names ++ w ∷ [])) w) at ∙ at)
+
+pub index_with : (names : List (List ℕ)) (w : List ℕ) → (i : ℕ) × (index_among (names_with w names) w ≡ Some i)
+index_with names w = index_in_either names w (index_among names w) refl

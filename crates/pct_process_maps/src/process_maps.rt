@@ -15,7 +15,7 @@ const HEIGHT: u32 = 32;
 #[derive(Drop)]
 pub struct ProcessMaps {
     // For each process, the version of its map.
-    roots: BTreeMap<u32, usize>,
+    roots: BTreeMap<u32, u32>,
     versions: Versions,
     ghost kept: { AreRoots versions roots } by { AreRoots-prop versions roots },
 }
@@ -34,7 +34,7 @@ impl ProcessMaps {
     }
 
     /// The value at a key in the map of a process.
-    pub fn get(&self, pid: u32, key: u32) -> usize
+    pub fn get(&self, pid: u32, key: u32) -> u32
         ensures { result ≡ value_in self.now pid key }
     {
         let root = self.roots.get(&pid).copied().unwrap_or(0);
@@ -42,7 +42,7 @@ impl ProcessMaps {
     }
 
     /// Gives a key another value in the map of a process. `NoMemory` leaves all values as they were.
-    pub fn set(&mut self, pid: u32, key: u32, value: usize) -> Result<(), NoMemory>
+    pub fn set(&mut self, pid: u32, key: u32, value: u32) -> Result<(), NoMemory>
         ensures ok { OnOk result ((q k : ℕ) → k < 2 ^ 32 → value_in self.new q k ≡ (if nat_eq pid q && nat_eq key k then value else value_in self.old q k)) }
         ensures unchanged { OnErr result ((q k : ℕ) → value_in self.new q k ≡ value_in self.old q k) }
     {

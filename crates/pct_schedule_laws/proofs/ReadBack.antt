@@ -42,7 +42,7 @@ line_lacks c (w ∷ next ∷ words) fails other plain =
     lacks-append c w (32 ∷ join_with_byte 32 (next ∷ words)) (lacks_other is_plain_byte c w fails parts.0)
     (lacks-cons c 32 (join_with_byte 32 (next ∷ words)) other (line_lacks c (next ∷ words) fails other parts.1))
 
-line_again : (words : List (List ℕ)) (lines : List (List (List ℕ))) → are_plain words ≡ true → lines_of (text_of (words ∷ lines)) ≡ join_with_byte 32 words ∷ lines_of (text_of lines)
+pub line_again : (words : List (List ℕ)) (lines : List (List (List ℕ))) → are_plain words ≡ true → lines_of (text_of (words ∷ lines)) ≡ join_with_byte 32 words ∷ lines_of (text_of lines)
 line_again words lines plain =
     ap lines_of (flat_map-cons line_text words lines ∙ append_assoc (join_with_byte 32 words) (10 ∷ []) (text_of lines))
     ∙ lines_of-line (join_with_byte 32 words) (text_of lines) (line_lacks 10 words refl refl plain)
@@ -56,7 +56,7 @@ plain_lacks : (w : List ℕ) → is_plain w ≡ true → split_once 32 w ≡ Non
 plain_lacks w plain = lacks_other is_plain_byte 32 w refl plain
 
 -- a line of plain words has those words
-words_again : (first : List ℕ) (words : List (List ℕ)) → are_plain (first ∷ words) ≡ true → words_of (join_with_byte 32 (first ∷ words)) ≡ first ∷ words
+pub words_again : (first : List ℕ) (words : List (List ℕ)) → are_plain (first ∷ words) ≡ true → words_of (join_with_byte 32 (first ∷ words)) ≡ first ∷ words
 words_again first [] plain = words_of-last first (plain_lacks first (and_parts (is_plain first) true plain).0)
 words_again first (next ∷ words) plain =
     let parts = and_parts (is_plain first) (are_plain (next ∷ words)) plain in

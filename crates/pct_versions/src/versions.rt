@@ -1,6 +1,6 @@
 //! Versions of a map from numbers to numbers, as binary tries that share nodes.
 
-ghost use Rattle.std.specs.Prelude.{◌≡◌, ◌<◌, ◌^◌, [], IfOk};
+ghost use Rattle.std.specs.Prelude.{◌≡◌, ◌<◌, ◌^◌, [], ◌∷◌, ◌++◌, length, IfOk, OnOk, OnErr};
 
 use pct_io::NoMemory;
 use std::alloc::Global;
@@ -8,8 +8,8 @@ use std::alloc::Global;
 // A node of the tries: the roots of its two halves, for the even and for the odd keys.
 #[derive(Clone, Copy)]
 struct Node {
-    even: usize,
-    odd: usize,
+    even: u32,
+    odd: u32,
 }
 
 /// Versions of a map from numbers to numbers. A version is the number of its root: 0 is the map with the value 0 at every key, and a copy
@@ -32,9 +32,10 @@ impl Versions {
     }
 
     // The half of a trie that has the key.
-    fn child(&self, root: usize, key: u32) -> usize
+    fn child(&self, root: u32, key: u32) -> u32
         ensures { result ≡ child_of (nodes_of self.now) root key }
     {
+        let root = root as usize;
         if root == 0 || self.nodes.len() < root {
             return 0;
         }
@@ -43,7 +44,7 @@ impl Versions {
     }
 
     /// The value of a version at a key.
-    pub fn get(&self, height: u32, root: usize, key: u32) -> usize
+    pub fn get(&self, height: u32, root: u32, key: u32) -> u32
         ensures { result ≡ value_at (nodes_of self.now) height root key }
     {
         if height == 0 {
@@ -53,14 +54,9 @@ impl Versions {
     }
 
     /// Makes a version with the values of another one, but at the key, which must fit the height. All versions so far keep their values,
-    /// also if `NoMemory` is returned.
-    pub fn set(
-        &mut self,
-        height: u32,
-        root: usize,
-        key: u32,
-        value: usize,
-    ) -> Result<usize, NoMemory>
+    /// also if `NoMemory` is returned. There is no
+    /// memory for 2 ^ 32 nodes.
+    pub fn set(&mut self, height: u32, root: u32, key: u32, value: u32) -> Result<u32, NoMemory>
         requires trie { IsTrie (nodes_of self.old) height root }
         requires key { key < 2 ^ height }
         ensures trie { IfOk result (λ version. IsTrie (nodes_of self.new) height version) }
@@ -84,7 +80,20 @@ impl Versions {
                 odd: changed,
             }
         };
+        let version = self.push(node)?;
+        Ok(version)
+    }
+
+    // Adds a node: its number, from 1. There is no memory for 2 ^ 32 nodes.
+    fn push(&mut self, node: Node) -> Result<u32, NoMemory>
+        ensures number { IfOk result (λ number. number ≡ length (nodes_of self.new)) }
+        ensures ok { OnOk result (nodes_of self.new ≡ nodes_of self.old ++ node ∷ []) }
+        ensures err { OnErr result (nodes_of self.new ≡ nodes_of self.old) }
+    {
+        if u32::MAX as usize <= self.nodes.len() {
+            return Err(NoMemory);
+        }
         self.nodes.push(node)?;
-        Ok(self.nodes.len())
+        Ok(self.nodes.len() as u32)
     }
 }

@@ -1,5 +1,5 @@
 -- The answer for `insert`.
-use Rattle.std.proofs.Common.{◌≡◌, ℕ, Bool, true, false, ◌&&◌, ◌||◌, cond, refl, nat_eq}
+use Rattle.std.proofs.Common.{◌≡◌, Bool, true, false, ◌&&◌, ◌||◌, cond, refl, nat_eq}
 use Rattle.pct_audit.specs.DestroyedKeys.{is_destroyed}
 use Rattle.pct_audit.proofs.PairKeys.{two_pairs_compare}
 use Rattle.pct_audit.proofs.destroyed.Destroyed.insert.Goals as goal

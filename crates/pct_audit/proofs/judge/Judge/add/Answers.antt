@@ -23,11 +23,12 @@ returns-clause-told c = λ passes events told may.
     let old = c.args.self.now in
     let second = subst (λ (r : Row). (p t : ℕ) → row_of c.replicate.new.rows p t ≡ cond (nat_eq e.tid t && makes_process p e.what) (copied r (row_of c.mark.new.rows p t)) (row_of c.mark.new.rows p t)) c.at-caller.ensures c.in_ok-replicate.ensures in
     let row = summary_own e events (row_of old.rows) (row_of c.mark.new.rows) (row_of c.replicate.new.rows) c.in_ok-mark.ensures second old.stacks (λ q u. (told.rows q u).summary) in
+    let made = subst (λ r. IsOwnChange e.what r c.in_ok-next.next) c.at-row.ensures c.in_ok-next.ensures.marks in
     let threads =
-        threads_told e events (row_of old.rows) (row_of c.mark.new.rows) (row_of c.replicate.new.rows) (row_of c.set.new.self) c.in_ok-next.next
-        c.in_ok-mark.ensures second c.in_ok-set.ensures (subst (λ r. IsOwnChange e.what r c.in_ok-next.next) c.at-row.ensures c.in_ok-next.ensures.marks)
-        old.stacks c.next_row.new.stacks c.in_ok-next.ensures.stacks told.rows
-        (c.in_ok-next.ensures.row passes (summary_of e.pid e.tid events) (subst (λ r. IsRow old.stacks r (summary_of e.pid e.tid events)) (sym c.at-row.ensures) row) may) in
+    threads_told e events (row_of old.rows) (row_of c.mark.new.rows) (row_of c.replicate.new.rows) (row_of c.set.new.self) c.in_ok-next.next
+    c.in_ok-mark.ensures second c.in_ok-set.ensures made
+    old.stacks c.next_row.new.stacks c.in_ok-next.ensures.stacks told.rows
+    (c.in_ok-next.ensures.row passes (summary_of e.pid e.tid events) (subst (λ r. IsRow old.stacks r (summary_of e.pid e.tid events)) (sym c.at-row.ensures) row) may) in
     record {
       rows = threads;
       destroyed = λ p t q k. c.in_ok-add.ensures p t q k ∙ destroyed_told e events p t q k (is_destroyed old.destroyed p t q k) (told.destroyed p t q k);
@@ -38,8 +39,9 @@ returns-clause-told c = λ passes events told may.
       last = refl;
       some_slots = told.some_slots;
       holders = λ p s t.
-        holders_told e (row_of old.rows) (row_of c.mark.new.rows) (row_of c.replicate.new.rows) (row_of c.set.new.self) c.in_ok-next.next c.in_ok-mark.ensures second c.in_ok-set.ensures
-        old.slots (holds old.holders) (holds c.refresh.new.holders) (holds c.refresh_named.new.holders) (holds c.refresh_replica.new.holders)
-        (λ q r u. told.holders q r u ∙ ap (λ b. b && nat_eq (slot_of old.slots u) r) (sym (live_told old.stacks (row_of old.rows q u) q u events (told.rows q u))))
-        c.in_ok-refresh.ensures c.in_ok-refresh_named.ensures c.in_ok-refresh_replica.ensures p s t
-        ∙ ap (λ b. b && nat_eq (slot_of old.slots t) s) (live_told c.next_row.new.stacks (row_of c.set.new.self p t) p t (e ∷ events) (threads p t)) }
+          holders_told e (row_of old.rows) (row_of c.mark.new.rows) (row_of c.replicate.new.rows) (row_of c.set.new.self) c.in_ok-next.next c.in_ok-mark.ensures second c.in_ok-set.ensures made
+          old.slots (holds old.holders) (holds c.refresh_own.new.holders) (holds c.refresh_named.new.holders) (holds c.refresh_replica.new.holders)
+          (λ q r u. told.holders q r u ∙ ap (λ b. b && nat_eq (slot_of old.slots u) r) (sym (live_told old.stacks (row_of old.rows q u) q u events (told.rows q u))))
+          c.in_ok-refresh_own.ensures c.in_ok-refresh_named.ensures c.in_ok-refresh_replica.ensures p s t
+          ∙ ap (λ b. b && nat_eq (slot_of old.slots t) s) (live_told c.next_row.new.stacks (row_of c.set.new.self p t) p t (e ∷ events) (threads p t));
+    }

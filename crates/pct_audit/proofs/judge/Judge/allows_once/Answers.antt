@@ -11,4 +11,4 @@ returns c = λ events told.
     let destroyed = c.was_destroyed-destroyed.result in
     c.may_come.ensures ∙ ap (λ t. allows c.args.passes e.what t destroyed) (c.snapshot-thread.ensures events told)
     ∙ allows_told c.args.passes e.what (summary_of e.pid e.tid events) destroyed
-      (λ pass key f v is. c.was_destroyed-destroyed.ensures pass key f v is ∙ told.destroyed e.pid e.tid pass key)
+    (λ pass key f v is. c.was_destroyed-destroyed.ensures pass key f v is ∙ told.destroyed e.pid e.tid pass key)

@@ -1,5 +1,5 @@
 -- The answer for `set`.
-use Rattle.std.proofs.Common.{◌≡◌, ℕ, refl, ap, ◌∙◌, nat_eq, ◌&&◌, Bool, true, false, cond, Option, Some}
+use Rattle.std.proofs.Common.{◌≡◌, refl, nat_eq, ◌&&◌, Bool, true, false, cond, Option, Some}
 use Rattle.std.specs.Prelude.{unwrap_or}
 use Rattle.pct_audit.specs.declared.rows.Row.{Row}
 use Rattle.std.specs.BTreeMap.{get}

@@ -1,9 +1,6 @@
 -- The answers for `depth`.
-use Rattle.std.proofs.Common.{◌≡◌, ◌≢◌, ℕ, ◌+◌, ◌<◌, ◌≤◌, List, [], ◌∷◌, ◌++◌, length, Some, refl, sym, ap, ◌∙◌, subst, arith}
-use Rattle.pct_model.specs.Actions.{without_first}
-use Rattle.pct_audit.specs.Stacks.{newest}
-use Rattle.pct_audit.specs.StackNodes.{stacks_of, AreStacks}
-use Rattle.pct_audit.proofs.StackFacts.{none_at, node_at, depth_at, low_at, few_at, stacks-push, nodes-push}
+use Rattle.std.proofs.Common.{length, sym, ap}
+use Rattle.pct_audit.proofs.StackFacts.{none_at, depth_at, few_at}
 use Rattle.pct_audit.proofs.stacks.Stacks.depth.Goals as goal
 
 pub returns-then-stack-eq0-clause-depth : goal.returns-then-stack-eq0-clause-depth

@@ -1,9 +1,8 @@
 -- The answers for `push`.
-use Rattle.std.proofs.Common.{◌≡◌, ◌≢◌, ℕ, ◌+◌, ◌<◌, ◌≤◌, List, [], ◌∷◌, ◌++◌, length, Some, refl, sym, ap, ◌∙◌, subst, arith}
-use Rattle.pct_model.specs.Actions.{without_first}
-use Rattle.pct_audit.specs.Stacks.{newest, stack_at}
-use Rattle.pct_audit.specs.StackNodes.{stacks_of, AreStacks}
-use Rattle.pct_audit.proofs.StackFacts.{none_at, node_at, depth_at, low_at, few_at, stacks-push, nodes-push}
+use Rattle.std.proofs.Common.{◌+◌, ◌≤◌, [], ◌∷◌, ◌++◌, length, sym, ap, ◌∙◌, arith}
+use Rattle.pct_audit.specs.Stacks.{stack_at}
+use Rattle.pct_audit.specs.StackNodes.{stacks_of}
+use Rattle.pct_audit.proofs.StackFacts.{stacks-push, nodes-push}
 use Rattle.pct_audit.proofs.stacks.Stacks.push.Goals as goal
 
 pub invariant_of-self-2 : goal.invariant_of-self-2

@@ -1,9 +1,7 @@
 -- The answers for `top`.
-use Rattle.std.proofs.Common.{◌≡◌, ◌≢◌, ℕ, ◌+◌, ◌<◌, ◌≤◌, List, [], ◌∷◌, ◌++◌, length, Some, refl, sym, ap, ◌∙◌, subst, arith}
-use Rattle.pct_model.specs.Actions.{without_first}
+use Rattle.std.proofs.Common.{sym, ap}
 use Rattle.pct_audit.specs.Stacks.{newest}
-use Rattle.pct_audit.specs.StackNodes.{stacks_of, AreStacks}
-use Rattle.pct_audit.proofs.StackFacts.{none_at, node_at, depth_at, low_at, few_at, stacks-push, nodes-push}
+use Rattle.pct_audit.proofs.StackFacts.{none_at, node_at}
 use Rattle.pct_audit.proofs.stacks.Stacks.top.Goals as goal
 
 pub returns-then-stack-eq0 : goal.returns-then-stack-eq0

@@ -1,0 +1,2 @@
+pub mod EventBounds
+pub mod EventNumbers

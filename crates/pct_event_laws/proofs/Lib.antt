@@ -1,0 +1,3 @@
+pub mod RenamedTests
+pub mod RenamedReadings
+pub mod RenamedLaws

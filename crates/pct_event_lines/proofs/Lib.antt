@@ -1,0 +1,4 @@
+pub mod NamesRead
+pub mod Numbers
+pub mod EventAgain
+pub mod EventsAgain

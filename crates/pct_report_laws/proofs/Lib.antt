@@ -1,0 +1,3 @@
+pub mod EventLineReads
+pub mod OtherLineReads
+pub mod ReportReads
