@@ -158,6 +158,35 @@ explain_expectation() {
     show_reason "$kind" "$why"
 }
 
+# What the law is about that `audit` names by this word.
+law_subject() {
+    case $1 in
+        once) echo 'cleanup handlers and destructors' ;;
+        slot) echo 'thread ids and slots' ;;
+        join) echo 'joins' ;;
+        cond) echo 'mutexes and condition waits' ;;
+        call_once) echo 'pthread_once' ;;
+    esac
+}
+
+# Explains what `audit` found in a report: the line of the event at which a law fails, or that of the refusal and its usual cause.
+explain_audit() {
+    # A fault and a refusal are four words without patterns.
+    # shellcheck disable=SC2046
+    set -- $(repeat_answer "$@")
+    if [ "$1" = audit ]; then
+        # Event 1 is in line 2.
+        line=$(($3 + 1))
+        printf '%s:%s: the law of %s fails at this event\n' "$file" "$line" "$(law_subject "$4")" >&2
+        show_line "$line" script
+    else
+        line=$3
+        printf '%s:%s: %s\n' "$file" "$line" "$4" >&2
+        show_line "$line" script
+        show_reason report "$4"
+    fi
+}
+
 # Explains the refusal of the rules of an expectation: the line, which is one of the rules' own file, and the usual cause.
 explain_rules() {
     # A refusal is four words without patterns.

@@ -1,6 +1,6 @@
 -- What the words of the program ask for, and which part of an input is the script's.
 use Rattle.pct_names.proofs.Names.{[], ap, asks_demo, Bool, bytes_eq, codes, cond, demo_number, false, false_from_ne_true, false≢true}
-use Rattle.pct_names.proofs.Names.{if◌then◌else◌, is_accepted}
+use Rattle.pct_names.proofs.Names.{if◌then◌else◌, inl, inr, is_accepted, ◌⊎◌}
 use Rattle.pct_names.proofs.Names.{is_asked, is_some, Keyword, keyword_text, le_refl, length, List, needs_input, None, none-some, numeral}
 use Rattle.pct_names.proofs.Names.{Option, option_map, option_map_or, or_parts, refl, run_options, RunOptions, script_part, Some, sym, take}
 use Rattle.pct_names.proofs.Names.{take_all, true, ◌||◌, ◌&&◌, ℕ, ◌∙◌, ◌∷◌, ◌≡◌, ◌≤◌}
@@ -11,8 +11,8 @@ use Rattle.pct_model.proofs.Bytes.{same_bytes}
 use Rattle.pct_history.proofs.IllegalEntries.{has_value}
 use Rattle.pct_options.proofs.Configs.{run_has_workers, run_is_within}
 use Rattle.pct_command.specs.declared.words.Job.{Job}
-use Rattle.pct_command.specs.declared.words.Job.TheVariants.{Run, Replay, Check, Points, Demo, Sample, Expect}
-use Rattle.pct_command.specs.Words.{accepts, Asks, asks_expect, HasInput, HasScriptInput, job_asked, parts_of_job, reads_input}
+use Rattle.pct_command.specs.declared.words.Job.TheVariants.{Run, Replay, Check, Points, Demo, Sample, Expect, Audit}
+use Rattle.pct_command.specs.Words.{accepts, Asks, asks_audit, asks_expect, HasInput, HasScriptInput, job_asked, judges_report, parts_of_job, reads_input}
 
 asked_is : (k : Keyword) (words : List (List ℕ)) → is_asked k words ≡ true → words ≡ keyword_text k ∷ []
 unfolding is_asked
@@ -72,7 +72,7 @@ demo_is_no_points words number asked = ap (is_asked keyword.Points) (demo_words 
 
 -- it reads no input
 pub demo_reads_none : (words : List (List ℕ)) (number : ℕ) → demo_number words ≡ Some number → reads_input words ≡ false
-unfolding run_options is_asked sample_number keyword_text asks_expect
+unfolding run_options is_asked sample_number keyword_text asks_expect asks_audit
 demo_reads_none words number asked = ap reads_input (demo_words words number asked).are
 
 -- words that read an input are not `demo`
@@ -115,7 +115,7 @@ pub sample_within : (words : List (List ℕ)) (seeds : ℕ) → sample_number wo
 unfolding seed_count
 sample_within words seeds asked = let parts = sample_words words seeds asked in count_within (numeral parts.text) seeds parts.value
 
--- ---- `expect` alone
+-- ---- `expect` alone, and `audit` alone
 
 expect_is : (words : List (List ℕ)) → asks_expect words ≡ true → words ≡ codes "expect" ∷ []
 unfolding asks_expect
@@ -123,25 +123,63 @@ expect_is [] asked = absurd (false≢true asked)
 expect_is (w ∷ []) asked = ap (λ (text : List ℕ). text ∷ []) (same_bytes w (codes "expect") asked)
 expect_is (w ∷ next ∷ words) asked = absurd (false≢true asked)
 
+audit_is : (words : List (List ℕ)) → asks_audit words ≡ true → words ≡ codes "audit" ∷ []
+unfolding asks_audit
+audit_is [] asked = absurd (false≢true asked)
+audit_is (w ∷ []) asked = ap (λ (text : List ℕ). text ∷ []) (same_bytes w (codes "audit") asked)
+audit_is (w ∷ next ∷ words) asked = absurd (false≢true asked)
+
+-- one is not the other
+pub expect_is_no_audit : (words : List (List ℕ)) → asks_expect words ≡ true → asks_audit words ≡ false
+unfolding asks_audit
+expect_is_no_audit words asked = ap asks_audit (expect_is words asked)
+
+-- each judges a report
+pub expect_judges : (words : List (List ℕ)) → asks_expect words ≡ true → judges_report words ≡ true
+expect_judges words asked = ap (λ (b : Bool). b || asks_audit words) asked
+
+or_right : (b c : Bool) → c ≡ true → (b || c) ≡ true
+or_right true c is = refl
+or_right false c is = is
+
+pub audit_judges : (words : List (List ℕ)) → asks_audit words ≡ true → judges_report words ≡ true
+audit_judges words asked = or_right (asks_expect words) (asks_audit words) asked
+
+-- and no other word does
+one_holds : (b c : Bool) → (b || c) ≡ true → (b ≡ true) ⊎ (c ≡ true)
+one_holds true c is = inl refl
+one_holds false c is = inr is
+
+pub judging : (words : List (List ℕ)) → judges_report words ≡ true → (asks_expect words ≡ true) ⊎ (asks_audit words ≡ true)
+judging words judges = one_holds (asks_expect words) (asks_audit words) judges
+
+-- a test that both words fail is failed by those of every command that judges a report
+both_fail : (test : List (List ℕ) → Bool) → test (codes "expect" ∷ []) ≡ false → test (codes "audit" ∷ []) ≡ false → (words : List (List ℕ)) → judges_report words ≡ true → test words ≡ false
+both_fail test expect audit words judges = of_word (judging words judges)
+  where
+    of_word : (asks_expect words ≡ true) ⊎ (asks_audit words ≡ true) → test words ≡ false
+    of_word (inl asked) = ap test (expect_is words asked) ∙ expect
+    of_word (inr asked) = ap test (audit_is words asked) ∙ audit
+
 -- it is no command on a script, nor one without an input
-pub expect_is_no_other : (words : List (List ℕ)) → asks_expect words ≡ true → is_accepted words ≡ false
+pub judging_is_no_other : (words : List (List ℕ)) → judges_report words ≡ true → is_accepted words ≡ false
 unfolding run_options is_asked demo_number sample_number keyword_text
-expect_is_no_other words asked = ap is_accepted (expect_is words asked)
+judging_is_no_other words judges = both_fail is_accepted refl refl words judges
 
-expect_needs_none : (words : List (List ℕ)) → asks_expect words ≡ true → needs_input words ≡ false
+judging_needs_none : (words : List (List ℕ)) → judges_report words ≡ true → needs_input words ≡ false
 unfolding run_options is_asked sample_number keyword_text
-expect_needs_none words asked = ap needs_input (expect_is words asked)
+judging_needs_none words judges = both_fail needs_input refl refl words judges
 
-pub input_is_no_expect : (words : List (List ℕ)) → needs_input words ≡ true → asks_expect words ≡ false
-input_is_no_expect words needs = false_from_ne_true (asks_expect words) (λ asked. true≢false (sym needs ∙ expect_needs_none words asked))
+pub input_is_no_judging : (words : List (List ℕ)) → needs_input words ≡ true → judges_report words ≡ false
+input_is_no_judging words needs = false_from_ne_true (judges_report words) (λ judges. true≢false (sym needs ∙ judging_needs_none words judges))
 
 -- ---- the job
 
 -- words that name a job name no other
 pub names_job : (words : List (List ℕ)) (job : Job) → Asks words job → job_asked words ≡ Some job
-unfolding run_options is_asked demo_number sample_number keyword_text asks_expect
+unfolding run_options is_asked demo_number sample_number keyword_text asks_expect asks_audit
 names_job words (Run options) asks =
-    ap (λ (o : Option RunOptions). option_map_or (λ numbers. Some (Run numbers)) o (if is_asked keyword.Replay words then Some Replay else if is_asked keyword.Check words then Some Check else if is_asked keyword.Points words then Some Points else if asks_expect words then Some Expect else option_map_or (λ number. Some (Demo number)) (demo_number words) (option_map (λ seeds. Sample seeds) (sample_number words)))) asks
+    ap (λ (o : Option RunOptions). option_map_or (λ numbers. Some (Run numbers)) o (if is_asked keyword.Replay words then Some Replay else if is_asked keyword.Check words then Some Check else if is_asked keyword.Points words then Some Points else if asks_expect words then Some Expect else if asks_audit words then Some Audit else option_map_or (λ number. Some (Demo number)) (demo_number words) (option_map (λ seeds. Sample seeds) (sample_number words)))) asks
 names_job words Replay asks = ap job_asked (asked_is keyword.Replay words asks)
 names_job words Check asks = ap job_asked (asked_is keyword.Check words asks)
 names_job words Points asks = ap job_asked (asked_is keyword.Points words asks)
@@ -152,36 +190,42 @@ names_job words (Sample seeds) asks =
     let parts = sample_words words seeds asks in
     ap job_asked parts.are ∙ ap (λ (o : Option ℕ). option_map (λ n. Sample n) o) parts.value
 names_job words Expect asks = ap job_asked (expect_is words asks)
+names_job words Audit asks = ap job_asked (audit_is words asks)
 
--- the job is `expect`
-abbrev pub names_expect : Option Job → Bool
-names_expect (Some Expect) = true
-names_expect _ = false
+-- the job judges a report
+abbrev pub is_judge : Option Job → Bool
+is_judge (Some Expect) = true
+is_judge (Some Audit) = true
+is_judge _ = false
 
--- words that name another job are not `expect`
-pub other_job : (words : List (List ℕ)) (job : Job) → Asks words job → names_expect (Some job) ≡ false → asks_expect words ≡ false
-other_job words job asks other =
-    false_from_ne_true (asks_expect words) (λ asked. true≢false (ap names_expect (sym (names_job words Expect asked) ∙ names_job words job asks) ∙ other))
+-- words that name another job judge none
+pub other_job : (words : List (List ℕ)) (job : Job) → Asks words job → is_judge (Some job) ≡ false → judges_report words ≡ false
+other_job words job asks other = false_from_ne_true (judges_report words) (λ judges. true≢false (of_word (judging words judges)))
+  where
+    of_word : (asks_expect words ≡ true) ⊎ (asks_audit words ≡ true) → true ≡ false
+    of_word (inl asked) = ap is_judge (sym (names_job words Expect asked) ∙ names_job words job asks) ∙ other
+    of_word (inr asked) = ap is_judge (sym (names_job words Audit asked) ∙ names_job words job asks) ∙ other
 
 -- the options of a job, if it is a run
 abbrev options_in : Option Job → Option RunOptions
 options_in (Some (Run options)) = Some options
 options_in _ = None
 
-run_asked_by : (asked : Option RunOptions) (replay check points expect : Bool) (number seeds : Option ℕ) (options : RunOptions)
-    → option_map_or (λ numbers. Some (Run numbers)) asked (if replay then Some Replay else if check then Some Check else if points then Some Points else if expect then Some Expect else option_map_or (λ n. Some (Demo n)) number (option_map (λ n. Sample n) seeds)) ≡ Some (Run options) → asked ≡ Some options
-run_asked_by (Some numbers) replay check points expect number seeds options is = ap options_in is
-run_asked_by None true check points expect number seeds options is = ap options_in is
-run_asked_by None false true points expect number seeds options is = ap options_in is
-run_asked_by None false false true expect number seeds options is = ap options_in is
-run_asked_by None false false false true number seeds options is = ap options_in is
-run_asked_by None false false false false None None options is = ap options_in is
-run_asked_by None false false false false None (Some k) options is = ap options_in is
-run_asked_by None false false false false (Some n) seeds options is = ap options_in is
+run_asked_by : (asked : Option RunOptions) (replay check points expect audit : Bool) (number seeds : Option ℕ) (options : RunOptions)
+    → option_map_or (λ numbers. Some (Run numbers)) asked (if replay then Some Replay else if check then Some Check else if points then Some Points else if expect then Some Expect else if audit then Some Audit else option_map_or (λ n. Some (Demo n)) number (option_map (λ n. Sample n) seeds)) ≡ Some (Run options) → asked ≡ Some options
+run_asked_by (Some numbers) replay check points expect audit number seeds options is = ap options_in is
+run_asked_by None true check points expect audit number seeds options is = ap options_in is
+run_asked_by None false true points expect audit number seeds options is = ap options_in is
+run_asked_by None false false true expect audit number seeds options is = ap options_in is
+run_asked_by None false false false true audit number seeds options is = ap options_in is
+run_asked_by None false false false false true number seeds options is = ap options_in is
+run_asked_by None false false false false false None None options is = ap options_in is
+run_asked_by None false false false false false None (Some k) options is = ap options_in is
+run_asked_by None false false false false false (Some n) seeds options is = ap options_in is
 
 -- words that name a run give its options
 pub run_asked : (words : List (List ℕ)) (options : RunOptions) → job_asked words ≡ Some (Run options) → run_options words ≡ Some options
-run_asked words options named = run_asked_by (run_options words) (is_asked keyword.Replay words) (is_asked keyword.Check words) (is_asked keyword.Points words) (asks_expect words) (demo_number words) (sample_number words) options named
+run_asked words options named = run_asked_by (run_options words) (is_asked keyword.Replay words) (is_asked keyword.Check words) (is_asked keyword.Points words) (asks_expect words) (asks_audit words) (demo_number words) (sample_number words) options named
 
 -- the job reads the input
 abbrev pub NeedsInput : Job → Type 0
@@ -192,6 +236,7 @@ NeedsInput Points = ⊥
 NeedsInput (Demo number) = ⊥
 NeedsInput (Sample seeds) = Unit {0}
 NeedsInput Expect = Unit {0}
+NeedsInput Audit = Unit {0}
 
 -- the options that words give have a configuration, workers and turns within the limits, and so has a number of seeds
 pub has_input : (words : List (List ℕ)) (job : Job) → Asks words job → NeedsInput job → HasInput job
@@ -202,6 +247,7 @@ has_input words Points asks needs = needs
 has_input words (Demo number) asks needs = needs
 has_input words (Sample seeds) asks needs = sample_within words seeds asks
 has_input words Expect asks needs = tt
+has_input words Audit asks needs = tt
 
 -- words that name a job with a script need an input
 pub job_needs_input : (words : List (List ℕ)) (job : Job) → Asks words job → HasScriptInput job → needs_input words ≡ true
@@ -215,13 +261,14 @@ job_needs_input words (Sample seeds) asks has =
     let parts = sample_words words seeds asks in
     ap needs_input parts.are ∙ ap (λ (o : Option ℕ). is_some o) parts.value
 job_needs_input words Expect asks has = absurd has
+job_needs_input words Audit asks has = absurd has
 
 -- so do those of every job with an input
 needing : (words : List (List ℕ)) → needs_input words ≡ true → reads_input words ≡ true
-needing words needs = ap (λ (b : Bool). b || asks_expect words) needs
+needing words needs = ap (λ (b : Bool). b || judges_report words) needs
 
 pub job_reads_input : (words : List (List ℕ)) (job : Job) → Asks words job → HasInput job → reads_input words ≡ true
-unfolding run_options is_asked sample_number keyword_text asks_expect
+unfolding run_options is_asked sample_number keyword_text asks_expect asks_audit
 job_reads_input words (Run options) asks has = needing words (job_needs_input words (Run options) asks has)
 job_reads_input words Replay asks has = needing words (job_needs_input words Replay asks has)
 job_reads_input words Check asks has = needing words (job_needs_input words Check asks has)
@@ -229,6 +276,7 @@ job_reads_input words Points asks has = absurd has
 job_reads_input words (Demo number) asks has = absurd has
 job_reads_input words (Sample seeds) asks has = needing words (job_needs_input words (Sample seeds) asks has)
 job_reads_input words Expect asks has = ap reads_input (expect_is words asks)
+job_reads_input words Audit asks has = ap reads_input (audit_is words asks)
 
 -- `points` needs none, and is accepted
 pub points_need_none : (words : List (List ℕ)) → is_asked keyword.Points words ≡ true → needs_input words ≡ false
@@ -236,7 +284,7 @@ unfolding run_options is_asked sample_number keyword_text
 points_need_none words asked = ap needs_input (asked_is keyword.Points words asked)
 
 pub points_read_none : (words : List (List ℕ)) → is_asked keyword.Points words ≡ true → reads_input words ≡ false
-unfolding run_options is_asked sample_number keyword_text asks_expect
+unfolding run_options is_asked sample_number keyword_text asks_expect asks_audit
 points_read_none words asked = ap reads_input (asked_is keyword.Points words asked)
 
 pub points_are_no_demo : (words : List (List ℕ)) → is_asked keyword.Points words ≡ true → asks_demo words ≡ false
@@ -258,13 +306,13 @@ none_asked words refused =
 -- the parts of words that no command has
 pub record IsNothing (words : List (List ℕ)) : Type 0 where
   pub refused : is_accepted words ≡ false
-  pub no_expect : asks_expect words ≡ false
+  pub no_judging : judges_report words ≡ false
   pub reads_none : reads_input words ≡ false
 
 pub nothing_asked : (words : List (List ℕ)) → accepts words ≡ false → IsNothing words
 nothing_asked words refused =
-    let parts = or_parts (is_accepted words) (asks_expect words) refused in
-    record { refused = parts.0; no_expect = parts.1; reads_none = ap (λ (b : Bool). b || asks_expect words) (none_asked words parts.0).needs_none ∙ parts.1 }
+    let parts = or_parts (is_accepted words) (judges_report words) refused in
+    record { refused = parts.0; no_judging = parts.1; reads_none = ap (λ (b : Bool). b || judges_report words) (none_asked words parts.0).needs_none ∙ parts.1 }
 
 pub replay_asks_replay : is_asked keyword.Replay (keyword_text keyword.Replay ∷ []) ≡ true
 unfolding is_asked keyword_text
@@ -300,6 +348,11 @@ part_of_expect : (words : List (List ℕ)) (input : List ℕ) → asks_expect wo
 unfolding script_part is_asked keyword_text
 part_of_expect words input asked = ap (λ (w : List (List ℕ)). script_part w input) (expect_is words asked)
 
+-- and of that of `audit`
+part_of_audit : (words : List (List ℕ)) (input : List ℕ) → asks_audit words ≡ true → script_part words input ≡ input
+unfolding script_part is_asked keyword_text
+part_of_audit words input asked = ap (λ (w : List (List ℕ)). script_part w input) (audit_is words asked)
+
 -- the script's part of the input of a job
 pub part_of_job : (words : List (List ℕ)) (job : Job) (input : List ℕ) → Asks words job → script_part words input ≡ take (parts_of_job job input).0 input
 unfolding script_part is_asked keyword_text
@@ -310,6 +363,7 @@ part_of_job words Points input asks = part_of_points words input asks ∙ sym (t
 part_of_job words (Demo number) input asks = part_of_demo words input number asks ∙ sym (take_all (length input) input (le_refl _))
 part_of_job words (Sample seeds) input asks = part_of_sample words input seeds asks ∙ sym (take_all (length input) input (le_refl _))
 part_of_job words Expect input asks = part_of_expect words input asks ∙ sym (take_all (length input) input (le_refl _))
+part_of_job words Audit input asks = part_of_audit words input asks ∙ sym (take_all (length input) input (le_refl _))
 
 -- what ends where the input was split is the script's part
 pub is_part : (words : List (List ℕ)) (job : Job) (input : List ℕ) (parts : ℕ × ℕ) → Asks words job → parts ≡ parts_of_job job input → take parts.0 input ≡ script_part words input

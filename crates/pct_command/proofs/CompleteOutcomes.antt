@@ -13,16 +13,21 @@ use Rattle.pct_judgement.specs.declared.judgement.Judgement.{Judgement}
 use Rattle.pct_judgement.specs.declared.judgement.Judgement.TheVariants as judgement
 use Rattle.pct_judgement.specs.Judgements.{IsJudgement, failed_count, report_part, rules_part}
 use Rattle.pct_judgement.proofs.OneJudgement.{value_or_error}
+use Rattle.pct_report_audit.specs.declared.report_audit.ReportAudit.{ReportAudit}
+use Rattle.pct_report_audit.specs.declared.report_audit.ReportAudit.TheVariants as audit
+use Rattle.pct_report_audit.specs.ReportAudits.{IsReportAudit}
 use Rattle.pct_command.specs.declared.answers.Answer.{Answer}
 use Rattle.pct_command.specs.declared.status.Status.{Status}
 use Rattle.pct_command.specs.declared.status.Status.TheVariants as status
 use Rattle.pct_command.specs.Status.{code_of, IsAnswered}
 use Rattle.pct_command.specs.declared.words.Job.TheVariants.{Sample}
 use Rattle.pct_command.specs.Expectations.{ExpectOutcome, HasReadParts, InputRefused, IsJudgedCode, Judged, code_of_judgement}
-use Rattle.pct_command.specs.Words.{asks_expect}
-use Rattle.pct_command.specs.Command.{CommandOutcome, Expected, Other, Sampled, Outside, Decides, Answers, HasLegalSchedule, IsValid, IsComplete}
+use Rattle.pct_command.specs.Audits as audits
+use Rattle.pct_command.specs.Audits.{AuditOutcome, HasReadReport, IsAuditedCode, code_of_audit}
+use Rattle.pct_command.specs.Words.{asks_audit, asks_expect}
+use Rattle.pct_command.specs.Command.{Audited, CommandOutcome, Expected, Other, Sampled, Outside, Decides, Answers, HasLegalSchedule, IsValid, IsComplete}
 use Rattle.pct_command.specs.Answer.{AnswersRead, status_of_answer, text_of_answer}
-use Rattle.pct_command.proofs.AskedWords.{expect_is_no_other, other_job}
+use Rattle.pct_command.proofs.AskedWords.{audit_judges, expect_is_no_audit, expect_judges, judging_is_no_other, other_job}
 use Rattle.pct_command.proofs.Scripts.{spelled_or_fault}
 
 -- ---- an input that is not refused
@@ -79,10 +84,16 @@ pub is_expect : (words : List (List ℕ)) (input : List ℕ) (code : ℕ) (text 
 is_expect words input code text (InputRefused o) = o.accepted
 is_expect words input code text (Judged o) = o.accepted
 
+-- and that of `audit`
+pub is_audit : (words : List (List ℕ)) (input : List ℕ) (code : ℕ) (text : List ℕ) → AuditOutcome words input code text → asks_audit words ≡ true
+is_audit words input code text (audits.InputRefused o) = o.accepted
+is_audit words input code text (audits.Audited o) = o.accepted
+
 -- so has the outcome of `sample`
 pub valid_below_five : (words : List (List ℕ)) (input : List ℕ) (schedule : List Entry) (code : ℕ) (text : List ℕ) → is_accepted words ≡ true → IsValid words input → CommandOutcome words input schedule code text → code < 5
 valid_below_five words input schedule code text accepted valid (Sampled samples) = omega (arith, samples.code_is)
-valid_below_five words input schedule code text accepted valid (Expected e) = absurd (true≢false (sym accepted ∙ expect_is_no_other words (is_expect words input code text e)))
+valid_below_five words input schedule code text accepted valid (Expected e) = absurd (true≢false (sym accepted ∙ judging_is_no_other words (expect_judges words (is_expect words input code text e))))
+valid_below_five words input schedule code text accepted valid (Audited a) = absurd (true≢false (sym accepted ∙ judging_is_no_other words (audit_judges words (is_audit words input code text a))))
 valid_below_five words input schedule code text accepted valid (Other _ other) = not_refused words input schedule code text accepted valid other
 
 -- ---- an input of `expect` that is not refused
@@ -98,10 +109,26 @@ judged_code input (judgement.ExpectRefused line why) parts is = absurd (value_or
 judged_code input (judgement.ReportRefused line why) parts is = absurd (value_or_error (report_in (report_part input)) (parts.config, parts.lines) (line, why) parts.read_report is.first)
 
 pub valid_is_judged : (words : List (List ℕ)) (input : List ℕ) (schedule : List Entry) (code : ℕ) (text : List ℕ) → asks_expect words ≡ true → HasReadParts input → CommandOutcome words input schedule code text → IsJudgedCode code
-valid_is_judged words input schedule code text asked parts (Sampled s) = absurd (true≢false (sym asked ∙ other_job words (Sample s.number) s.accepted refl))
+valid_is_judged words input schedule code text asked parts (Sampled s) = absurd (true≢false (sym (expect_judges words asked) ∙ other_job words (Sample s.number) s.accepted refl))
 valid_is_judged words input schedule code text asked parts (Expected (InputRefused o)) = absurd (omega (arith, parts.fits, o.too_long))
 valid_is_judged words input schedule code text asked parts (Expected (Judged o)) = subst IsJudgedCode (sym o.code_is) (judged_code input o.judgement parts o.is_judgement)
-valid_is_judged words input schedule code text asked parts (Other no_expect o) = absurd (true≢false (sym asked ∙ no_expect))
+valid_is_judged words input schedule code text asked parts (Audited a) = absurd (true≢false (sym (is_audit words input code text a) ∙ expect_is_no_audit words asked))
+valid_is_judged words input schedule code text asked parts (Other no_judging o) = absurd (true≢false (sym (expect_judges words asked) ∙ no_judging))
+
+-- ---- an input of `audit` that is not refused
+
+-- a report that is read is audited
+audited_code : (input : List ℕ) (a : ReportAudit) → HasReadReport input → IsReportAudit input a → IsAuditedCode (code_of_audit a)
+audited_code input (audit.Passed events) report is = inl refl
+audited_code input (audit.Failed fault) report is = inr refl
+audited_code input (audit.Refused line why) report is = absurd (value_or_error (report_in input) (report.config, report.lines) (line, why) report.read_report is)
+
+pub valid_is_audited : (words : List (List ℕ)) (input : List ℕ) (schedule : List Entry) (code : ℕ) (text : List ℕ) → asks_audit words ≡ true → HasReadReport input → CommandOutcome words input schedule code text → IsAuditedCode code
+valid_is_audited words input schedule code text asked report (Sampled s) = absurd (true≢false (sym (audit_judges words asked) ∙ other_job words (Sample s.number) s.accepted refl))
+valid_is_audited words input schedule code text asked report (Expected e) = absurd (true≢false (sym asked ∙ expect_is_no_audit words (is_expect words input code text e)))
+valid_is_audited words input schedule code text asked report (Audited (audits.InputRefused o)) = absurd (omega (arith, report.fits, o.too_long))
+valid_is_audited words input schedule code text asked report (Audited (audits.Audited o)) = subst IsAuditedCode (sym o.code_is) (audited_code input o.audit report o.is_audit)
+valid_is_audited words input schedule code text asked report (Other no_judging o) = absurd (true≢false (sym (audit_judges words asked) ∙ no_judging))
 
 -- ---- all that a source had left
 
@@ -122,7 +149,12 @@ front_length (Some xs) (Some ys) given left prefix has =
 pub complete : (words : List (List ℕ)) (before after : Outside) (a : Answer) → AnswersRead words before.left after.left a → Appends before.written after.written (text_of_answer a) → IsComplete words before after (status_of_answer a)
 complete words before after a read wrote = λ input has no_read_fault no_write_fault.
     let answer = read.of_all input has in
-    inr (record { text = text_of_answer a; answer = answer; wrote = wrote }, λ accepted valid. valid_below_five words input answer.schedule _ _ accepted valid answer.is_outcome, λ asked parts. valid_is_judged words input answer.schedule _ _ asked parts answer.is_outcome)
+    inr (
+      record { text = text_of_answer a; answer = answer; wrote = wrote },
+      λ accepted valid. valid_below_five words input answer.schedule _ _ accepted valid answer.is_outcome,
+      λ asked parts. valid_is_judged words input answer.schedule _ _ asked parts answer.is_outcome,
+      λ asked report. valid_is_audited words input answer.schedule _ _ asked report answer.is_outcome,
+    )
 
 -- ---- what is promised of a status
 

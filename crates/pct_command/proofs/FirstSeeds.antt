@@ -18,11 +18,11 @@ use Rattle.pct_sample.specs.SeedRuns.{config_of}
 use Rattle.pct_sample.proofs.SeedOptions.{seeds_are_options}
 use Rattle.pct_command.specs.declared.words.Job.{Job}
 use Rattle.pct_command.specs.declared.words.Job.TheVariants as job
-use Rattle.pct_command.specs.Command.{CommandOutcome, Expected, IsReportOf, Other, Sampled}
+use Rattle.pct_command.specs.Command.{Audited, CommandOutcome, Expected, IsReportOf, Other, Sampled}
 use Rattle.pct_command.specs.FirstSeeds.{FirstSeedsReproduce, IsCountOf, words_of_seed}
-use Rattle.pct_command.specs.Words.{asks_expect, job_asked}
+use Rattle.pct_command.specs.Words.{asks_audit, asks_expect, job_asked}
 use Rattle.pct_command.proofs.AskedWords.{has_input, job_needs_input, names_job, part_of_run}
-use Rattle.pct_command.proofs.CompleteOutcomes.{is_expect}
+use Rattle.pct_command.proofs.CompleteOutcomes.{is_audit, is_expect}
 use Rattle.pct_command.proofs.OneOutcome.{by_job, by_run, fitting, found, Found, Counted, Decided, Spelled, run_of}
 use Rattle.pct_command.proofs.OneAnswer.{seeded}
 
@@ -81,9 +81,10 @@ module _ (seed input : List ℕ) (asked : run_options (words_of_seed seed) ≡ S
 
   code_answered : (script : Script) (v : Verdict) (schedule : List Entry) (code : ℕ) (text : List ℕ) → length input ≤ 16777216 → Spells input script → EndsWith script v (digits_value 10 seed)
       → (code < 5 → IsReportOf (job_asked (words_of_seed seed)) (words_of_seed seed) input schedule code text) → CommandOutcome (words_of_seed seed) input schedule code text → code ≡ code_of_verdict v
-  unfolding sample_number asks_expect
+  unfolding sample_number asks_expect asks_audit
   code_answered script v schedule code text fits spells ends reports (Sampled s) = absurd (none-some s.number s.accepted)
   code_answered script v schedule code text fits spells ends reports (Expected e) = absurd (false≢true (is_expect (words_of_seed seed) input code text e))
+  code_answered script v schedule code text fits spells ends reports (Audited a) = absurd (false≢true (is_audit (words_of_seed seed) input code text a))
   code_answered script v schedule code text fits spells ends reports (Other _ o) =
       code_found script v schedule code text fits spells ends reports (found (words_of_seed seed) input schedule code text o)
 

@@ -1,5 +1,5 @@
 -- Words that do not ask for more than one worker and an input have one answer at the most, since a seed has one schedule.
-use Rattle.pct_names.proofs.Names.{◌<◌, ap, code_of_verdict, Config, config_for, Entry, length, List, None, none-some, Option, refl, report}
+use Rattle.pct_names.proofs.Names.{◌<◌, ap, code_of_verdict, Config, config_for, Entry, inl, inr, length, List, None, none-some, Option, refl, report}
 use Rattle.pct_names.proofs.Names.{Run, run, RunOptions, Script, script_part, Some, some_pair_parts, Spells, subst, sym, verdict_of, ℕ, ◌∙◌}
 use Rattle.pct_names.proofs.Names.{◌≡◌}
 use Rattle.pct_grammar.proofs.Scripts.{spells_one_script}
@@ -7,11 +7,11 @@ use Rattle.pct_scheduled_run.specs.SeedSchedules.{SeedSchedule}
 use Rattle.pct_scheduled_run.proofs.OneSchedule.{seed_schedule_is_one}
 use Rattle.pct_command.specs.declared.words.Job.{Job}
 use Rattle.pct_command.specs.declared.words.Job.TheVariants as job
-use Rattle.pct_command.specs.Command.{AnswersAreOne, CommandOutcome, Expected, HasOneWorker, IsReportOf, Other, Sampled}
+use Rattle.pct_command.specs.Command.{AnswersAreOne, Audited, CommandOutcome, Expected, HasOneWorker, IsReportOf, Other, Sampled}
 use Rattle.pct_command.specs.Words.{job_asked}
 use Rattle.pct_command.proofs.AskedWords.{run_asked}
 use Rattle.pct_command.proofs.CompleteOutcomes.{verdict_code}
-use Rattle.pct_command.proofs.OneOutcome.{by_run, run_of, by_job, expect_is_one, one_is_expect, found, found_once, sample_has_no_other, samples_are_one}
+use Rattle.pct_command.proofs.OneOutcome.{by_run, run_of, by_job, judging_is_one, one_is_judging, found, found_once, sample_has_no_other, samples_are_one}
 
 -- the code of a report is that of a verdict
 run_below_five : (script : Script) (config : Config) (entries : List Entry) (after : Option Run) (reported : Option (List ℕ)) (code : ℕ) (text : List ℕ) → by_run script config entries after reported ≡ Some (code, text) → code < 5
@@ -54,11 +54,16 @@ outcomes_with words input one other code other_code text other_text lone reports
     found_once words input one other code other_code text other_text
     (λ script spells x y. answer_of_job words input script spells (job_asked words) one other code other_code text other_text x y reports other_reports (λ options named. lone options (run_asked words options named)))
     (found words input one code text a) (found words input other other_code other_text b)
-outcomes_with words input one other code other_code text other_text lone reports other_reports (Expected a) b = expect_is_one words input other code other_code text other_text a b
+outcomes_with words input one other code other_code text other_text lone reports other_reports (Expected a) b = judging_is_one words input other code other_code text other_text (inl a) b
+outcomes_with words input one other code other_code text other_text lone reports other_reports (Audited a) b = judging_is_one words input other code other_code text other_text (inr a) b
 outcomes_with words input one other code other_code text other_text lone reports other_reports (Sampled a) (Expected b) =
-    one_is_expect words input one code other_code text other_text (Sampled a) b
-outcomes_with words input one other code other_code text other_text lone reports other_reports (Other no_expect a) (Expected b) =
-    one_is_expect words input one code other_code text other_text (Other no_expect a) b
+    one_is_judging words input one code other_code text other_text (Sampled a) (inl b)
+outcomes_with words input one other code other_code text other_text lone reports other_reports (Sampled a) (Audited b) =
+    one_is_judging words input one code other_code text other_text (Sampled a) (inr b)
+outcomes_with words input one other code other_code text other_text lone reports other_reports (Other no_judging a) (Expected b) =
+    one_is_judging words input one code other_code text other_text (Other no_judging a) (inl b)
+outcomes_with words input one other code other_code text other_text lone reports other_reports (Other no_judging a) (Audited b) =
+    one_is_judging words input one code other_code text other_text (Other no_judging a) (inr b)
 
 pub answer_is_one : AnswersAreOne
 answer_is_one words input code other_code text other_text lone a b =

@@ -4,7 +4,7 @@ use Rattle.pct_names.proofs.Names.{Err, false, Fault, first_fault, first_illegal
 use Rattle.pct_names.proofs.Names.{le_refl, length, line_text, List, nat_lt, needs_input, None, none-some, Ok, Option, option_map, Outcome}
 use Rattle.pct_names.proofs.Names.{points_text, refl, refused_entry, refused_input, refused_schedule, refused_script, refused_words, report}
 use Rattle.pct_names.proofs.Names.{Run, run, same_Some, sched_of, Schedule, schedule_part, Script, script_part, Some, some_pair_parts}
-use Rattle.pct_names.proofs.Names.{sample_number, Spells, subst, summary_of, sym, take-length, text_of, true, verdict_of, ℕ, ◌∙◌, ◌≡◌, ◌≤◌}
+use Rattle.pct_names.proofs.Names.{sample_number, Spells, subst, summary_of, sym, take-length, text_of, true, verdict_of, ℕ, ◌∙◌, ◌≡◌, ◌≤◌, ◌⊎◌, inl, inr}
 use Rattle.std.proofs.lemmas.Bool.{lt-ltb, true≢false}
 use Rattle.pct_model.specs.declared.keyword.Keyword.TheVariants as keyword
 use Rattle.pct_model.specs.Outcome as outcome
@@ -14,8 +14,10 @@ use Rattle.pct_grammar.proofs.CanonSpells.{canon_spells}
 use Rattle.pct_command.specs.declared.words.Job.{Job}
 use Rattle.pct_command.specs.declared.words.Job.TheVariants as job
 use Rattle.pct_command.specs.Expectations.{code_of_judgement, ExpectOutcome, InputRefused, Judged}
-use Rattle.pct_command.specs.Words.{Asks, asks_expect, HasScriptInput, job_asked}
-use Rattle.pct_command.proofs.AskedWords.{has_input, names_job, other_job, job_needs_input, points_need_none, demo_needs_none, demo_is_no_points, none_asked, part_of_run, part_of_check, part_of_sample, sample_within}
+use Rattle.pct_command.specs.Audits as audits
+use Rattle.pct_command.specs.Audits.{AuditOutcome, code_of_audit}
+use Rattle.pct_command.specs.Words.{Asks, HasScriptInput, job_asked, judges_report}
+use Rattle.pct_command.proofs.AskedWords.{audit_judges, expect_is_no_audit, expect_judges, has_input, names_job, other_job, job_needs_input, points_need_none, demo_needs_none, demo_is_no_points, none_asked, part_of_run, part_of_check, part_of_sample, sample_within}
 use Rattle.pct_demo.proofs.CountedRuns.{counted_is_one}
 use Rattle.pct_tallies.specs.declared.tally.Tally.{Tally}
 use Rattle.pct_tallies.specs.Seeds.{first_seeds}
@@ -26,8 +28,11 @@ use Rattle.pct_judgement.specs.declared.judgement.Judgement.{Judgement}
 use Rattle.pct_judgement.specs.AnswerTexts.{judgement_text}
 use Rattle.pct_judgement.specs.Judgements.{report_part, rules_part}
 use Rattle.pct_judgement.proofs.OneJudgement.{judgements_are_one}
-use Rattle.pct_command.specs.Command.{CommandOutcome, Expected, Other, Sampled, Samples}
-use Rattle.pct_command.proofs.CompleteOutcomes.{is_expect}
+use Rattle.pct_command.specs.Command.{Audited, CommandOutcome, Expected, Other, Sampled, Samples}
+use Rattle.pct_report_audit.specs.declared.report_audit.ReportAudit.{ReportAudit}
+use Rattle.pct_report_audit.specs.AuditTexts.{audit_text}
+use Rattle.pct_report_audit.proofs.OneAudit.{audits_are_one}
+use Rattle.pct_command.proofs.CompleteOutcomes.{is_audit, is_expect}
 
 -- ---- legal runs
 
@@ -82,6 +87,7 @@ by_job (Some job.Points) input schedule script = None
 by_job (Some (job.Demo number)) input schedule script = None
 by_job (Some (job.Sample seeds)) input schedule script = None
 by_job (Some job.Expect) input schedule script = None
+by_job (Some job.Audit) input schedule script = None
 by_job None input schedule script = None
 
 -- the code and the text are these
@@ -242,20 +248,51 @@ expects_are_one words input code other text told (Judged a) (Judged b) =
     let same : a.judgement ≡ b.judgement = judgements_are_one (rules_part input) (report_part input) a.judgement b.judgement a.is_judgement b.is_judgement in
     (a.code_is ∙ ap (λ (j : Judgement). code_of_judgement j) same ∙ sym b.code_is, a.text_is ∙ ap (λ (j : Judgement). judgement_text j) same ∙ sym b.text_is)
 
--- words of `expect` have no other outcome
-expect_alone : (words : List (List ℕ)) (input : List ℕ) (schedule : List Entry) (code : ℕ) (text : List ℕ) → asks_expect words ≡ true → CommandOutcome words input schedule code text → ExpectOutcome words input code text
-expect_alone words input schedule code text asked (Sampled s) = absurd (true≢false (sym asked ∙ other_job words (job.Sample s.number) s.accepted refl))
-expect_alone words input schedule code text asked (Expected e) = e
-expect_alone words input schedule code text asked (Other no_expect o) = absurd (true≢false (sym asked ∙ no_expect))
+-- ---- `audit`
+
+-- an input has one audit, that has one code and one text
+audit_outcomes_are_one : (words : List (List ℕ)) (input : List ℕ) (code other : ℕ) (text told : List ℕ) → AuditOutcome words input code text → AuditOutcome words input other told → (code ≡ other) × (text ≡ told)
+audit_outcomes_are_one words input code other text told (audits.InputRefused a) (audits.InputRefused b) = (a.code_is ∙ sym b.code_is, a.text_is ∙ sym b.text_is)
+audit_outcomes_are_one words input code other text told (audits.InputRefused a) (audits.Audited b) = absurd (omega (arith, a.too_long, b.fits))
+audit_outcomes_are_one words input code other text told (audits.Audited a) (audits.InputRefused b) = absurd (omega (arith, a.fits, b.too_long))
+audit_outcomes_are_one words input code other text told (audits.Audited a) (audits.Audited b) =
+    let same : a.audit ≡ b.audit = audits_are_one input a.audit b.audit a.is_audit b.is_audit in
+    (a.code_is ∙ ap (λ (r : ReportAudit). code_of_audit r) same ∙ sym b.code_is, a.text_is ∙ ap (λ (r : ReportAudit). audit_text r) same ∙ sym b.text_is)
+
+-- ---- the commands that judge a report
+
+-- the outcome of `expect`, or that of `audit`
+abbrev pub JudgingOutcome : List (List ℕ) → List ℕ → ℕ → List ℕ → Type 0
+JudgingOutcome words input code text = ExpectOutcome words input code text ⊎ AuditOutcome words input code text
+
+judging_words : (words : List (List ℕ)) (input : List ℕ) (code : ℕ) (text : List ℕ) → JudgingOutcome words input code text → judges_report words ≡ true
+judging_words words input code text (inl e) = expect_judges words (is_expect words input code text e)
+judging_words words input code text (inr a) = audit_judges words (is_audit words input code text a)
+
+expect_or_audit : (words : List (List ℕ)) (input : List ℕ) (code other : ℕ) (text told : List ℕ) → ExpectOutcome words input code text → AuditOutcome words input other told → ⊥
+expect_or_audit words input code other text told e a = true≢false (sym (is_audit words input other told a) ∙ expect_is_no_audit words (is_expect words input code text e))
+
+judgings_are_one : (words : List (List ℕ)) (input : List ℕ) (code other : ℕ) (text told : List ℕ) → JudgingOutcome words input code text → JudgingOutcome words input other told → (code ≡ other) × (text ≡ told)
+judgings_are_one words input code other text told (inl a) (inl b) = expects_are_one words input code other text told a b
+judgings_are_one words input code other text told (inl a) (inr b) = absurd (expect_or_audit words input code other text told a b)
+judgings_are_one words input code other text told (inr a) (inl b) = absurd (expect_or_audit words input other code told text b a)
+judgings_are_one words input code other text told (inr a) (inr b) = audit_outcomes_are_one words input code other text told a b
+
+-- their words have no other outcome
+judging_alone : (words : List (List ℕ)) (input : List ℕ) (schedule : List Entry) (code : ℕ) (text : List ℕ) → judges_report words ≡ true → CommandOutcome words input schedule code text → JudgingOutcome words input code text
+judging_alone words input schedule code text judges (Sampled s) = absurd (true≢false (sym judges ∙ other_job words (job.Sample s.number) s.accepted refl))
+judging_alone words input schedule code text judges (Expected e) = inl e
+judging_alone words input schedule code text judges (Audited a) = inr a
+judging_alone words input schedule code text judges (Other no_judging o) = absurd (true≢false (sym judges ∙ no_judging))
 
 -- nor another code or text, under any schedule
-pub expect_is_one : (words : List (List ℕ)) (input : List ℕ) (schedule : List Entry) (code other : ℕ) (text told : List ℕ) → ExpectOutcome words input code text → CommandOutcome words input schedule other told → (code ≡ other) × (text ≡ told)
-expect_is_one words input schedule code other text told e o =
-    expects_are_one words input code other text told e (expect_alone words input schedule other told (is_expect words input code text e) o)
+pub judging_is_one : (words : List (List ℕ)) (input : List ℕ) (schedule : List Entry) (code other : ℕ) (text told : List ℕ) → JudgingOutcome words input code text → CommandOutcome words input schedule other told → (code ≡ other) × (text ≡ told)
+judging_is_one words input schedule code other text told j o =
+    judgings_are_one words input code other text told j (judging_alone words input schedule other told (judging_words words input code text j) o)
 
-pub one_is_expect : (words : List (List ℕ)) (input : List ℕ) (schedule : List Entry) (code other : ℕ) (text told : List ℕ) → CommandOutcome words input schedule code text → ExpectOutcome words input other told → (code ≡ other) × (text ≡ told)
-one_is_expect words input schedule code other text told o e =
-    let same = expect_is_one words input schedule other code told text e o in
+pub one_is_judging : (words : List (List ℕ)) (input : List ℕ) (schedule : List Entry) (code other : ℕ) (text told : List ℕ) → CommandOutcome words input schedule code text → JudgingOutcome words input other told → (code ≡ other) × (text ≡ told)
+one_is_judging words input schedule code other text told o j =
+    let same = judging_is_one words input schedule other code told text j o in
     (sym same.0, sym same.1)
 
 -- ---- every command
@@ -270,6 +307,9 @@ outcome_is_one words input schedule code other text told (Sampled a) (Sampled b)
 outcome_is_one words input schedule code other text told (Sampled a) (Other _ b) = absurd (sample_has_no_other words input schedule code other text told a b)
 outcome_is_one words input schedule code other text told (Other _ a) (Sampled b) = absurd (sample_has_no_other words input schedule other code told text b a)
 outcome_is_one words input schedule code other text told (Other _ a) (Other _ b) = outcome_alone words input schedule code other text told a b
-outcome_is_one words input schedule code other text told (Expected a) b = expect_is_one words input schedule code other text told a b
-outcome_is_one words input schedule code other text told (Sampled a) (Expected b) = one_is_expect words input schedule code other text told (Sampled a) b
-outcome_is_one words input schedule code other text told (Other no_expect a) (Expected b) = one_is_expect words input schedule code other text told (Other no_expect a) b
+outcome_is_one words input schedule code other text told (Expected a) b = judging_is_one words input schedule code other text told (inl a) b
+outcome_is_one words input schedule code other text told (Audited a) b = judging_is_one words input schedule code other text told (inr a) b
+outcome_is_one words input schedule code other text told (Sampled a) (Expected b) = one_is_judging words input schedule code other text told (Sampled a) (inl b)
+outcome_is_one words input schedule code other text told (Sampled a) (Audited b) = one_is_judging words input schedule code other text told (Sampled a) (inr b)
+outcome_is_one words input schedule code other text told (Other no_judging a) (Expected b) = one_is_judging words input schedule code other text told (Other no_judging a) (inl b)
+outcome_is_one words input schedule code other text told (Other no_judging a) (Audited b) = one_is_judging words input schedule code other text told (Other no_judging a) (inr b)

@@ -22,18 +22,24 @@ use Rattle.pct_tallies.specs.TallyTexts.{tally_lines}
 use Rattle.pct_shared.specs.Schedules.{WorkersSchedule}
 use Rattle.pct_command.specs.declared.answers.Answer.TheVariants as answer
 use Rattle.pct_command.specs.declared.words.Job.{Job}
-use Rattle.pct_command.specs.declared.words.Job.TheVariants.{Run as run_job, Replay, Check, Points, Demo, Sample, Expect}
+use Rattle.pct_command.specs.declared.words.Job.TheVariants.{Run as run_job, Replay, Check, Points, Demo, Sample, Expect, Audit}
 use Rattle.pct_command.specs.Status.{code_of}
 use Rattle.pct_judgement.specs.declared.judgement.Judgement.{Judgement}
 use Rattle.pct_judgement.specs.declared.judgement.Judgement.TheVariants as judgement
 use Rattle.pct_judgement.specs.AnswerTexts.{judgement_text}
 use Rattle.pct_judgement.specs.Judgements.{IsJudgement, failed_count, report_part, rules_part}
+use Rattle.pct_report_audit.specs.declared.report_audit.ReportAudit.{ReportAudit}
+use Rattle.pct_report_audit.specs.declared.report_audit.ReportAudit.TheVariants as audit
+use Rattle.pct_report_audit.specs.AuditTexts.{audit_text}
+use Rattle.pct_report_audit.specs.ReportAudits.{IsReportAudit}
 use Rattle.pct_command.specs.declared.status.Status.TheVariants as status
 use Rattle.pct_command.specs.Expectations.{InputRefused, Judged, code_of_judgement}
-use Rattle.pct_command.specs.Words.{accepts, Asks, asks_expect, job_asked, reads_input}
-use Rattle.pct_command.specs.Command.{Expected, Other, Sampled, IsClosedRun, IsReplayed, IsLawful, IsReportOf, IsAnswer, options_for}
+use Rattle.pct_command.specs.Audits as audits
+use Rattle.pct_command.specs.Audits.{code_of_audit}
+use Rattle.pct_command.specs.Words.{accepts, Asks, asks_audit, asks_expect, job_asked, judges_report, reads_input}
+use Rattle.pct_command.specs.Command.{Audited, Expected, Other, Sampled, IsClosedRun, IsReplayed, IsLawful, IsReportOf, IsAnswer, options_for}
 use Rattle.pct_command.specs.Answer.{HasScript, status_of_verdict, verdict_of_run, text_of_run, summary_of_run, code_of_answer}
-use Rattle.pct_command.proofs.AskedWords.{input_is_no_expect, names_job, nothing_asked, other_job, part_of_run, part_of_check, part_of_sample, replay_asks_replay}
+use Rattle.pct_command.proofs.AskedWords.{input_is_no_judging, names_job, nothing_asked, other_job, part_of_run, part_of_check, part_of_sample, replay_asks_replay}
 
 -- ---- reports
 
@@ -263,37 +269,57 @@ judgement-answer words input j asked fits is = record {
   is_report = λ below. of-job words Expect input [] _ _ asked tt;
 }
 
+-- the code of an audit is that of its status
+audit-code : (a : ReportAudit) → code_of_answer (answer.Audited a) ≡ code_of_audit a
+audit-code (audit.Passed events) = refl
+audit-code (audit.Failed fault) = refl
+audit-code (audit.Refused line why) = refl
+
+-- an audit of the report that is the input is the answer of `audit`
+pub audit-answer : (words : List (List ℕ)) (input : List ℕ) (a : ReportAudit) → asks_audit words ≡ true → length input ≤ 16777216 → IsReportAudit input a → IsAnswer words input (code_of_answer (answer.Audited a)) (audit_text a)
+audit-answer words input a asked fits is = record {
+  schedule = [];
+  is_outcome = Audited (audits.Audited (record { accepted = asked; fits = fits; audit = a; is_audit = is; code_is = audit-code a; text_is = refl }));
+  is_report = λ below. of-job words Audit input [] _ _ asked tt;
+}
+
 -- ---- refusals
 
 -- a refusal is no report
-refusal : (words : List (List ℕ)) (input : List ℕ) (code : ℕ) (text : List ℕ) → 4 < code → asks_expect words ≡ false → Outcome words input [] code text → IsAnswer words input code text
-refusal words input code text above no_expect is_outcome = record { schedule = []; is_outcome = Other no_expect is_outcome; is_report = λ below. absurd (omega (arith, above, below)) }
+refusal : (words : List (List ℕ)) (input : List ℕ) (code : ℕ) (text : List ℕ) → 4 < code → judges_report words ≡ false → Outcome words input [] code text → IsAnswer words input code text
+refusal words input code text above no_judging is_outcome = record { schedule = []; is_outcome = Other no_judging is_outcome; is_report = λ below. absurd (omega (arith, above, below)) }
 
 pub words-answer : (words : List (List ℕ)) (input : List ℕ) → accepts words ≡ false → IsAnswer words input 5 (line_text refused_words)
 words-answer words input refused =
     let nothing = nothing_asked words refused in
-    refusal words input 5 _ (omega arith) nothing.no_expect (outcome.WordsRefused (record { refused = nothing.refused; code_is = refl; text_is = refl }))
+    refusal words input 5 _ (omega arith) nothing.no_judging (outcome.WordsRefused (record { refused = nothing.refused; code_is = refl; text_is = refl }))
 
 -- one part holds if the other does not
 or_left : (b : Bool) → (b || false) ≡ true → b ≡ true
 or_left true is = refl
 or_left false is = is
 
-long-answer : (words : List (List ℕ)) (input : List ℕ) (expect : Bool) → asks_expect words ≡ expect → (needs_input words || expect) ≡ true → 16777216 < length input → IsAnswer words input 8 (line_text refused_input)
-long-answer words input true asked reads too_long = record {
+long-answer : (words : List (List ℕ)) (input : List ℕ) (expect audits : Bool) → asks_expect words ≡ expect → asks_audit words ≡ audits → (needs_input words || (expect || audits)) ≡ true → 16777216 < length input → IsAnswer words input 8 (line_text refused_input)
+long-answer words input true other asked _ reads too_long = record {
   schedule = [];
   is_outcome = Expected (InputRefused (record { accepted = asked; too_long = too_long; code_is = refl; text_is = refl }));
   is_report = λ below. of-job words Expect input [] _ _ asked tt;
 }
-long-answer words input false no_expect reads too_long =
-    refusal words input 8 _ (omega arith) no_expect (outcome.InputRefused (record { accepted = or_left (needs_input words) reads; too_long = too_long; code_is = refl; text_is = refl }))
+long-answer words input false true no_expect asked reads too_long = record {
+  schedule = [];
+  is_outcome = Audited (audits.InputRefused (record { accepted = asked; too_long = too_long; code_is = refl; text_is = refl }));
+  is_report = λ below. of-job words Audit input [] _ _ asked tt;
+}
+long-answer words input false false no_expect no_audit reads too_long =
+    let no_judging : judges_report words ≡ false = ap (λ (b : Bool). b || asks_audit words) no_expect ∙ no_audit in
+    refusal words input 8 _ (omega arith) no_judging (outcome.InputRefused (record { accepted = or_left (needs_input words) reads; too_long = too_long; code_is = refl; text_is = refl }))
 
 pub input-answer : (words : List (List ℕ)) (input : List ℕ) → reads_input words ≡ true → 16777216 < length input → IsAnswer words input 8 (line_text refused_input)
-input-answer words input reads too_long = long-answer words input (asks_expect words) refl reads too_long
+input-answer words input reads too_long = long-answer words input (asks_expect words) (asks_audit words) refl refl reads too_long
 
 pub script-answer : (words : List (List ℕ)) (input : List ℕ) (line : ℕ) (why : ParseWhy) → needs_input words ≡ true → length input ≤ 16777216 → FirstFault (script_part words input) line why → IsAnswer words input 6 (line_text (refused_script line why))
 script-answer words input line why accepted fits first =
-    refusal words input 6 _ (omega arith) (input_is_no_expect words accepted) (outcome.ScriptRefused (record { accepted = accepted; fits = fits; line = line; why = why; first = first; code_is = refl; text_is = refl }))
+    refusal words input 6 _ (omega arith) (input_is_no_judging words accepted) (outcome.ScriptRefused (record { accepted = accepted; fits = fits; line = line; why = why; first = first; code_is = refl; text_is = refl }))
 
 pub schedule-answer : (words : List (List ℕ)) (input : List ℕ) (script : Script) (line : ℕ) (why : ScheduleWhy) → is_asked keyword.Replay words ≡ true → HasScript words input script
     → sched_of (schedule_part input) ≡ Err (line, why) → IsAnswer words input 7 (line_text (refused_schedule line why))

@@ -21,6 +21,9 @@ use Rattle.pct_judgement.specs.declared.judgement.Judgement.{Judgement}
 use Rattle.pct_judgement.specs.declared.judgement.Judgement.TheVariants as judgement
 use Rattle.pct_judgement.specs.AnswerTexts.{judgement_text}
 use Rattle.pct_judgement.specs.Judgements.{failed_count}
+use Rattle.pct_report_audit.specs.declared.report_audit.ReportAudit.{ReportAudit}
+use Rattle.pct_report_audit.specs.declared.report_audit.ReportAudit.TheVariants as audit
+use Rattle.pct_report_audit.specs.AuditTexts.{audit_text}
 use Rattle.pct_command.specs.declared.answers.Refusal.{Refusal}
 use Rattle.pct_command.specs.declared.answers.Refusal.TheVariants as refusal
 use Rattle.pct_command.specs.declared.answers.Answer.{Answer}
@@ -58,6 +61,12 @@ status_of_judgement (judgement.Answered answers) = if nat_eq (failed_count answe
 status_of_judgement (judgement.ExpectRefused line why) = status.ExpectRefused
 status_of_judgement (judgement.ReportRefused line why) = status.ReportRefused
 
+-- the status of an audit
+abbrev pub status_of_audit : ReportAudit → Status
+status_of_audit (audit.Passed events) = status.Complete
+status_of_audit (audit.Failed fault) = status.AuditFailed
+status_of_audit (audit.Refused line why) = status.ReportRefused
+
 -- the verdict of the run of an engine; every engine has a run
 abbrev pub verdict_of_run : EngineValue → Verdict
 verdict_of_run engine = option_map_or (λ after. verdict_of engine.script engine.config after.world (length engine.history)) (run engine.script engine.config engine.history) verdict.Open
@@ -79,6 +88,7 @@ status_of_answer answer.Points = status.Complete
 status_of_answer (answer.Demonstrated number engine) = status.Complete
 status_of_answer (answer.Sampled seeds tally) = status.Complete
 status_of_answer (answer.Judged j) = status_of_judgement j
+status_of_answer (answer.Audited audit) = status_of_audit audit
 
 -- the code of an answer
 abbrev pub code_of_answer : Answer → ℕ
@@ -93,7 +103,7 @@ line_of_refusal (refusal.Schedule line why) = refused_schedule line why
 line_of_refusal (refusal.Entry entry_number) = refused_entry entry_number
 
 -- the text of an answer: the line of a refusal, the report of a run, the canonical text of a script, the table of points, the summary of a
--- run, a tally, or a judgement
+-- run, a tally, a judgement, or an audit
 abbrev pub text_of_answer : Answer → List ℕ
 text_of_answer (answer.Refused why) = line_text (line_of_refusal why)
 text_of_answer (answer.Ran engine) = text_of_run engine
@@ -102,6 +112,7 @@ text_of_answer answer.Points = points_text
 text_of_answer (answer.Demonstrated number engine) = summary_of_run number engine
 text_of_answer (answer.Sampled seeds tally) = text_of (tally_lines seeds tally)
 text_of_answer (answer.Judged j) = judgement_text j
+text_of_answer (answer.Audited audit) = audit_text audit
 
 -- ---- the answer to a text
 

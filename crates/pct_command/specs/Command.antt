@@ -31,8 +31,9 @@ use Rattle.pct_command.specs.declared.status.Status.TheVariants as status
 use Rattle.pct_command.specs.declared.words.Job.{Job}
 use Rattle.pct_command.specs.declared.words.Job.TheVariants as job
 use Rattle.pct_command.specs.Status.{code_of}
+use Rattle.pct_command.specs.Audits.{AuditOutcome, HasReadReport, IsAuditedCode}
 use Rattle.pct_command.specs.Expectations.{ExpectOutcome, HasReadParts, IsJudgedCode}
-use Rattle.pct_command.specs.Words.{asks_expect, job_asked}
+use Rattle.pct_command.specs.Words.{asks_audit, asks_expect, job_asked, judges_report}
 
 -- the source and the sink: the bytes that are left and those that were written, if they are known, and the counts of errors
 pub record Outside : Type 0 where
@@ -62,12 +63,13 @@ pub record Samples (words : List (List ℕ)) (input : List ℕ) (code : ℕ) (te
   pub code_is : code ≡ 0
   pub text_is : text ≡ text_of (tally_lines number tally)
 
--- the outcome of every command: that of `sample` for a script without a fault, that of `expect`, or another outcome (Outcome.antt). The cases
--- are disjoint
+-- the outcome of every command: that of `sample` for a script without a fault, that of `expect`, that of `audit`, or another outcome
+-- (Outcome.antt). The cases are disjoint
 pub data CommandOutcome (words : List (List ℕ)) (input : List ℕ) (schedule : List Entry) (code : ℕ) (text : List ℕ) : Type 0 where
   Sampled : Samples words input code text → CommandOutcome words input schedule code text
   Expected : ExpectOutcome words input code text → CommandOutcome words input schedule code text
-  Other : asks_expect words ≡ false → Outcome words input schedule code text → CommandOutcome words input schedule code text
+  Audited : AuditOutcome words input code text → CommandOutcome words input schedule code text
+  Other : judges_report words ≡ false → Outcome words input schedule code text → CommandOutcome words input schedule code text
 
 -- ---- what is written
 
@@ -120,6 +122,7 @@ IsReportOf (Some job.Points) words input schedule code text = Unit {0}
 IsReportOf (Some (job.Demo number)) words input schedule code text = Unit {0}
 IsReportOf (Some (job.Sample seeds)) words input schedule code text = Unit {0}
 IsReportOf (Some job.Expect) words input schedule code text = Unit {0}
+IsReportOf (Some job.Audit) words input schedule code text = Unit {0}
 IsReportOf None words input schedule code text = Unit {0}
 
 -- the code and the text are the outcome of the words and the input, and a report is that of the job that the words name
@@ -203,12 +206,12 @@ pub record IsValid (words : List (List ℕ)) (input : List ℕ) : Type 0 where
   pub schedule : is_asked keyword.Replay words ≡ true → HasLegalSchedule script input
 
 -- if the source reports its bytes and no call failed, the outcome of all that it had left was written whole, or memory ran out;
--- with accepted words a valid input is not refused, nor is one of `expect` whose parts are read
+-- with accepted words a valid input is not refused, nor is one of `expect` whose parts are read, or one of `audit` whose report is read
 abbrev pub IsComplete : List (List ℕ) → Outside → Outside → Status → Type 0
 IsComplete words before after s =
     (input : List ℕ) → before.left ≡ Some input
     → s ≢ status.ReadFault → s ≢ status.WriteFault
-    → (s ≡ status.NoMemory) ⊎ (WroteAll (IsAnswer words) input before.written after.written (code_of s) × (is_accepted words ≡ true → IsValid words input → code_of s < 5) × (asks_expect words ≡ true → HasReadParts input → IsJudgedCode (code_of s)))
+    → (s ≡ status.NoMemory) ⊎ (WroteAll (IsAnswer words) input before.written after.written (code_of s) × (is_accepted words ≡ true → IsValid words input → code_of s < 5) × (asks_expect words ≡ true → HasReadParts input → IsJudgedCode (code_of s)) × (asks_audit words ≡ true → HasReadReport input → IsAuditedCode (code_of s)))
 
 -- words, an input and a schedule have at most one outcome
 abbrev pub OutcomesAreOne : Type 0

@@ -1,9 +1,7 @@
 -- The outcomes of `expect`.
-use Rattle.std.specs.Prelude.{◌≡◌, ◌⊎◌, ℕ, ◌<◌, ◌≤◌, true, if◌then◌else◌, List, length, nat_eq, Ok}
+use Rattle.std.specs.Prelude.{◌≡◌, ◌⊎◌, ℕ, ◌≤◌, true, if◌then◌else◌, List, length, nat_eq, Ok}
 use Rattle.pct_model.specs.declared.limits.TheConstants.{MAX_INPUT}
 use Rattle.pct_model.specs.declared.schedule.Config.{Config}
-use Rattle.pct_model.specs.Keywords.{line_text}
-use Rattle.pct_model.specs.Outcome.{refused_input}
 use Rattle.pct_expect.specs.declared.rule.Rule.{Rule}
 use Rattle.pct_expect.specs.declared.span.Span.{Span}
 use Rattle.pct_expect.specs.Reading.{expects_in}
@@ -12,6 +10,7 @@ use Rattle.pct_judgement.specs.declared.judgement.Judgement.{Judgement}
 use Rattle.pct_judgement.specs.declared.judgement.Judgement.TheVariants as judgement
 use Rattle.pct_judgement.specs.AnswerTexts.{judgement_text}
 use Rattle.pct_judgement.specs.Judgements.{IsJudgement, failed_count, report_part, rules_part}
+use Rattle.pct_command.specs.LongInputs.{RefusesLongInput}
 use Rattle.pct_command.specs.Words.{asks_expect}
 
 -- the exit code of a judgement: 0 if each rule holds, 14 if one does not, 15 if the rules are refused, 13 if the report is
@@ -19,13 +18,6 @@ abbrev pub code_of_judgement : Judgement → ℕ
 code_of_judgement (judgement.Answered answers) = if nat_eq (failed_count answers) 0 then 0 else 14
 code_of_judgement (judgement.ExpectRefused line why) = 15
 code_of_judgement (judgement.ReportRefused line why) = 13
-
--- an input above the limit
-pub record RefusesLongInput (words : List (List ℕ)) (input : List ℕ) (code : ℕ) (text : List ℕ) : Type 0 where
-  pub accepted : asks_expect words ≡ true
-  pub too_long : MAX_INPUT < length input
-  pub code_is : code ≡ 8
-  pub text_is : text ≡ line_text refused_input
 
 -- the judgement of the report in the input by the rules in it
 pub record Judges (words : List (List ℕ)) (input : List ℕ) (code : ℕ) (text : List ℕ) : Type 0 where
@@ -38,7 +30,7 @@ pub record Judges (words : List (List ℕ)) (input : List ℕ) (code : ℕ) (tex
 
 -- the outcome of `expect`
 pub data ExpectOutcome (words : List (List ℕ)) (input : List ℕ) (code : ℕ) (text : List ℕ) : Type 0 where
-  InputRefused : RefusesLongInput words input code text → ExpectOutcome words input code text
+  InputRefused : RefusesLongInput (asks_expect words) input code text → ExpectOutcome words input code text
   Judged : Judges words input code text → ExpectOutcome words input code text
 
 -- an input of `expect` that is not refused: its rules and its report have no fault

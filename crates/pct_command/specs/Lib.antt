@@ -1,7 +1,9 @@
 pub mod SeedSchedule
 pub mod Status
 pub mod Words
+pub mod LongInputs
 pub mod Expectations
+pub mod Audits
 pub mod Command
 pub mod Answer
 pub mod FirstSeeds

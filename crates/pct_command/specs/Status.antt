@@ -17,6 +17,7 @@ code_of status.TooLong = 8
 code_of status.ReadFault = 9
 code_of status.WriteFault = 10
 code_of status.NoMemory = 11
+code_of status.AuditFailed = 12
 code_of status.ReportRefused = 13
 code_of status.ExpectFailed = 14
 code_of status.ExpectRefused = 15

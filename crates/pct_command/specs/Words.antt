@@ -10,7 +10,7 @@ use Rattle.pct_model.specs.Run.{is_config}
 use Rattle.pct_model.specs.RunOptions.{HasWorkers, run_options}
 use Rattle.pct_model.specs.Sample.{sample_number}
 use Rattle.pct_command.specs.declared.words.Job.{Job}
-use Rattle.pct_command.specs.declared.words.Job.TheVariants.{Run, Replay, Check, Points, Demo, Sample, Expect}
+use Rattle.pct_command.specs.declared.words.Job.TheVariants.{Run, Replay, Check, Points, Demo, Sample, Expect, Audit}
 
 -- the words are `expect` alone
 unfoldable pub asks_expect : List (List ℕ) → Bool
@@ -18,13 +18,23 @@ asks_expect [] = false
 asks_expect (word ∷ []) = bytes_eq word (codes "expect")
 asks_expect (word ∷ next ∷ words) = false
 
--- the words of a command that reads the input: those of a command on a script (Outcome.antt), or `expect` alone
+-- the words are `audit` alone
+unfoldable pub asks_audit : List (List ℕ) → Bool
+asks_audit [] = false
+asks_audit (word ∷ []) = bytes_eq word (codes "audit")
+asks_audit (word ∷ next ∷ words) = false
+
+-- the words of a command that judges the report in its input: `expect` alone, or `audit` alone
+abbrev pub judges_report : List (List ℕ) → Bool
+judges_report words = asks_expect words || asks_audit words
+
+-- the words of a command that reads the input: those of a command on a script (Outcome.antt), or of one that judges a report
 abbrev pub reads_input : List (List ℕ) → Bool
-reads_input words = needs_input words || asks_expect words
+reads_input words = needs_input words || judges_report words
 
 -- the words of every command
 abbrev pub accepts : List (List ℕ) → Bool
-accepts words = is_accepted words || asks_expect words
+accepts words = is_accepted words || judges_report words
 
 -- the words name this job; `run` has the numbers of its options
 abbrev pub Asks : List (List ℕ) → Job → Type 0
@@ -35,6 +45,7 @@ Asks words Points = is_asked keyword.Points words ≡ true
 Asks words (Demo number) = demo_number words ≡ Some number
 Asks words (Sample seeds) = sample_number words ≡ Some seeds
 Asks words Expect = asks_expect words ≡ true
+Asks words Audit = asks_audit words ≡ true
 
 -- the job that the words name, if they are accepted
 abbrev pub job_asked : List (List ℕ) → Option Job
@@ -44,6 +55,7 @@ job_asked words =
     else if is_asked keyword.Check words then Some Check
     else if is_asked keyword.Points words then Some Points
     else if asks_expect words then Some Expect
+    else if asks_audit words then Some Audit
     else option_map_or (λ number. Some (Demo number)) (demo_number words) (option_map (λ seeds. Sample seeds) (sample_number words))
     )
 
@@ -56,10 +68,12 @@ HasInput Points = ⊥
 HasInput (Demo number) = ⊥
 HasInput (Sample seeds) = (1 ≤ seeds) × (seeds ≤ MAX_SEEDS)
 HasInput Expect = Unit {0}
+HasInput Audit = Unit {0}
 
 -- the input that the job reads has a script
 abbrev pub HasScriptInput : Job → Type 0
 HasScriptInput Expect = ⊥
+HasScriptInput Audit = ⊥
 HasScriptInput job = HasInput job
 
 -- where the script's part of an input ends, and where its schedule's part begins
@@ -71,6 +85,7 @@ parts_of_job Points input = (length input, length input)
 parts_of_job (Demo number) input = (length input, length input)
 parts_of_job (Sample seeds) input = (length input, length input)
 parts_of_job Expect input = (length input, length input)
+parts_of_job Audit input = (length input, length input)
 
 -- the command that the words name takes memory: all that are accepted do, but `points`
 abbrev pub takes_memory : List (List ℕ) → Bool

@@ -17,6 +17,7 @@ use pct_judgement::write_judgement;
 use pct_model::Keyword;
 use pct_printer::print;
 use pct_report::write_report;
+use pct_report_audit::write_audit;
 use pct_tallies::write_tally;
 
 /// Writes an answer, drops it, and returns its status and whether it was written.
@@ -32,7 +33,7 @@ pub(crate) fn give_answer<K: Sink>(answer: Answer, sink: &mut K) -> (Status, Res
 }
 
 // Writes an answer: the line of a refusal, the report of a run, the canonical text of a script, the table of cancellation points,
-// the summary of a run, a tally of runs, or a judgement.
+// the summary of a run, a tally of runs, a judgement, or an audit.
 fn write_answer<K: Sink>(answer: &Answer, sink: &mut K) -> Result<(), Failed>
     ensures { Writes K.written K.errors K.inners sink.old sink.new (text_of_answer answer.now) result }
 {
@@ -44,6 +45,7 @@ fn write_answer<K: Sink>(answer: &Answer, sink: &mut K) -> Result<(), Failed>
         Answer::Demonstrated { number, engine } => write_summary(*number, engine, sink),
         Answer::Sampled { seeds, tally } => write_tally(*seeds, tally, sink),
         Answer::Judged(judgement) => write_judgement(judgement, sink),
+        Answer::Audited(audit) => write_audit(*audit, sink),
     }
 }
 

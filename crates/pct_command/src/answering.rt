@@ -14,6 +14,7 @@ use pct_history::split_replay;
 use pct_io::{Gate, NoMemory};
 use pct_judgement::judge_input;
 use pct_model::Script;
+use pct_report_audit::audit_report;
 use pct_script::{ParseFault, parse};
 use pct_shared::Runtime;
 use std::thread::Threads;
@@ -31,6 +32,7 @@ pub(crate) fn answer_of<R: Threads + Sync, G: Gate>(
 {
     match job {
         Job::Expect => Ok(Answer::Judged(judge_input(runtime.alloc, text)?)),
+        Job::Audit => Ok(Answer::Audited(audit_report(runtime.alloc, text)?)),
         _ => answer_with_script(runtime, job, text),
     }
 }
@@ -83,6 +85,6 @@ fn answer_script<R: Threads + Sync, G: Gate>(
         Job::Replay => replay_script(runtime.alloc, script, schedule),
         Job::Check => Ok(Answer::Checked(script)),
         Job::Sample(seeds) => sample_script(runtime, &script, seeds),
-        Job::Points | Job::Demo(_) | Job::Expect => unreachable!(),
+        Job::Points | Job::Demo(_) | Job::Expect | Job::Audit => unreachable!(),
     }
 }

@@ -1,13 +1,15 @@
-//! The answers: a refusal, a run, a script, the table of cancellation points, a run of a generated script, a tally of runs, or a judgement.
+//! The answers: a refusal, a run, a script, the table of cancellation points, a run of a generated script, a tally of runs, a judgement,
+//! or an audit.
 
 ghost use Rattle.std.specs.Prelude.{◌≡◌};
-ghost use Rattle.pct_command.specs.Answer.{status_of_answer, status_of_judgement, status_of_refusal};
+ghost use Rattle.pct_command.specs.Answer.{status_of_answer, status_of_audit, status_of_judgement, status_of_refusal};
 ghost use Rattle.pct_command.specs.Status.{IsAnswered};
 
 use crate::status::Status;
 use pct_engine::Engine;
 use pct_judgement::{Judgement, failed_count};
 use pct_model::{ParseWhy, ScheduleWhy, Script};
+use pct_report_audit::ReportAudit;
 use pct_tallies::Tally;
 
 /// Why an input is refused.
@@ -42,6 +44,8 @@ pub(crate) enum Answer {
     Sampled { seeds: u32, tally: Tally },
     /// Which rules hold of the events in a report.
     Judged(Judgement),
+    /// Whether the events in a report keep the laws.
+    Audited(ReportAudit),
 }
 
 /// Why there is no answer to an input.
@@ -82,6 +86,7 @@ impl Answer {
             | Answer::Demonstrated { .. }
             | Answer::Sampled { .. } => Status::Complete,
             Answer::Judged(judgement) => status_of_judgement(judgement),
+            Answer::Audited(audit) => status_of_audit(*audit),
         }
     }
 }
@@ -99,5 +104,17 @@ fn status_of_judgement(judgement: &Judgement) -> Status
         },
         Judgement::ExpectRefused { .. } => Status::ExpectRefused,
         Judgement::ReportRefused { .. } => Status::ReportRefused,
+    }
+}
+
+// The status of an audit.
+fn status_of_audit(audit: ReportAudit) -> Status
+    ensures status { result ≡ status_of_audit audit }
+    ensures answered { IsAnswered result }
+{
+    match audit {
+        ReportAudit::Passed { .. } => Status::Complete,
+        ReportAudit::Failed(_) => Status::AuditFailed,
+        ReportAudit::Refused { .. } => Status::ReportRefused,
     }
 }

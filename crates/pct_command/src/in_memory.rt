@@ -3,10 +3,11 @@
 ghost use Rattle.std.specs.Prelude.{◌≡◌, ◌<◌, ℕ, List, true, map, string_bytes, IfOk};
 ghost use Rattle.pct_model.specs.Outcome.{is_accepted};
 ghost use Rattle.pct_command.specs.Answer.{Answered};
+ghost use Rattle.pct_command.specs.Audits.{HasReadReport, IsAuditedCode};
 ghost use Rattle.pct_command.specs.Command.{IsAnswer, IsValid};
 ghost use Rattle.pct_command.specs.Expectations.{HasReadParts, IsJudgedCode};
 ghost use Rattle.pct_command.specs.Status.{code_of};
-ghost use Rattle.pct_command.specs.Words.{Asks, HasInput, asks_expect};
+ghost use Rattle.pct_command.specs.Words.{Asks, HasInput, asks_audit, asks_expect};
 
 use crate::answer_writer::give_answer;
 use crate::answering::answer_of;
@@ -37,6 +38,9 @@ pub fn answer<R: Threads + Sync>(
 
     // With `expect` an input whose parts are read is not refused.
     ensures judged { asks_expect (map string_bytes words.now) ≡ true → HasReadParts input.now → IfOk result (λ given. IsJudgedCode (code_of given.0)) }
+
+    // With `audit` a report that is read is not refused.
+    ensures audited { asks_audit (map string_bytes words.now) ≡ true → HasReadReport input.now → IfOk result (λ given. IsAuditedCode (code_of given.0)) }
 {
     let runtime = Runtime {
         rt,

@@ -33,6 +33,8 @@ pub enum Status {
     WriteFault,
     /// 11: memory ran out.
     NoMemory,
+    /// 12: the events in a report do not keep the laws.
+    AuditFailed,
     /// 13: a report is refused.
     ReportRefused,
     /// 14: a rule does not hold.
@@ -75,6 +77,7 @@ impl Status {
             Status::ReadFault => 9,
             Status::WriteFault => 10,
             Status::NoMemory => 11,
+            Status::AuditFailed => 12,
             Status::ReportRefused => 13,
             Status::ExpectFailed => 14,
             Status::ExpectRefused => 15,

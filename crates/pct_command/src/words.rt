@@ -31,11 +31,13 @@ pub enum Job {
     Sample(u32),
     /// Judge the report in the input by the rules in it, and write the answers.
     Expect,
+    /// Audit the report that is the input, and write whether its events keep the laws.
+    Audit,
 }
 
 /// The command that the words name: `run` with its options, `demo` with a number, `sample` with a number of seeds from 1 to 10,000, or one
-/// word, which is `replay`, `check`, `points` or `expect`. `Usage` comes with all other words. It allocates no memory.
-#[tactic(auto, unfolding(pct_model::specs::Outcome::is_asked, crate::specs::Words::asks_expect))]
+/// word, which is `replay`, `check`, `points`, `expect` or `audit`. `Usage` comes with all other words. It allocates no memory.
+#[tactic(auto, unfolding(pct_model::specs::Outcome::is_asked, crate::specs::Words::asks_expect, crate::specs::Words::asks_audit))]
 pub fn read_words(words: &[String]) -> Result<Job, Usage>
     ensures accepted { IsOk result ↔ (accepts (map string_bytes words.now) ≡ true) }
     ensures job { IfOk result (λ job. Asks (map string_bytes words.now) job) }
@@ -54,6 +56,7 @@ pub fn read_words(words: &[String]) -> Result<Job, Usage>
         [word] if word.as_bytes() == Keyword::Check.text() => Ok(Job::Check),
         [word] if word.as_bytes() == Keyword::Points.text() => Ok(Job::Points),
         [word] if word.as_bytes() == b"expect".as_slice() => Ok(Job::Expect),
+        [word] if word.as_bytes() == b"audit".as_slice() => Ok(Job::Audit),
         _ => Err(Usage),
     }
 }

@@ -9,4 +9,4 @@ mod ThreadWords
 mod FoundForms
 mod EventLines
 mod EventLists
-mod ReportParts
+pub mod ReportParts

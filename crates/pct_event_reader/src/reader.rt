@@ -1,11 +1,13 @@
 //! Reading a report with its events.
 
-ghost use Rattle.std.specs.Prelude.{◌≡◌, ◌<◌, ◌≤◌, ◌^◌, All, IfOk, Some, length, map, true};
+ghost use Rattle.std.specs.Prelude.{◌≡◌, ◌<◌, ◌≤◌, ◌^◌, All, Err, IfOk, IsOk, Some, length, map, true};
 ghost use Rattle.pct_expect.specs.Events.{IsWithin, part_at};
 ghost use Rattle.pct_model.specs.declared.limits.TheConstants.{MAX_INPUT};
-ghost use Rattle.pct_model.specs.Lines.{words_of};
+ghost use Rattle.pct_model.specs.Lines.{lines_of, strip_cr, words_of};
+ghost use Rattle.pct_model.specs.Run.{is_config};
+ghost use Rattle.pct_report_reader.specs.declared.fault.ReportFault.TheVariants.{NoMemory as OutOfMemory};
 ghost use Rattle.pct_report_reader.specs.Gives.{Gives};
-ghost use Rattle.pct_report_reader.specs.Reading.{is_event};
+ghost use Rattle.pct_report_reader.specs.Reading.{body_in, is_event};
 ghost use Rattle.pct_event_reader.specs.EventReports.{HasIds, event_report_in, events_of_words};
 
 use crate::event::read_event;
@@ -38,8 +40,10 @@ pub struct EventReport {
 pub fn read_events(alloc: Global, text: &[u8]) -> Result<EventReport, ReportFault>
     requires { length text.now ≤ MAX_INPUT }
     ensures read { Gives (λ report. (report.config, (Some report.events, report.lines))) result (event_report_in text.now) }
+    ensures config { IfOk result (λ report. is_config report.config ≡ true) }
     ensures ids { IfOk result (λ report. All HasIds report.events) }
     ensures few { IfOk result (λ report. length report.events < 2 ^ 32) }
+    ensures memory { result ≡ Err OutOfMemory → IsOk (body_in (map strip_cr (lines_of text.now))) }
 {
     let report = read_report(alloc, text)?;
     let events = events_of_lines(alloc, text, report.lines.as_slice())?;

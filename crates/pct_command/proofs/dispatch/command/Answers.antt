@@ -53,6 +53,7 @@ demonstration-status answer.Points is = absurd is
 demonstration-status (answer.Demonstrated number engine) is = refl
 demonstration-status (answer.Sampled seeds tally) is = absurd is
 demonstration-status (answer.Judged j) is = absurd is
+demonstration-status (answer.Audited a) is = absurd is
 
 pub returns-in_default-Ok-clause-demo : goal.returns-in_default-Ok-clause-demo
 returns-in_default-Ok-clause-demo g c = λ asked.
@@ -74,3 +75,9 @@ returns-in_default-Err-clause-write_errors g c = record { error = λ _. (rw c.in
 pub returns-in-Err-ReadFault-clause-demo : goal.returns-in-Err-ReadFault-clause-demo
 returns-in-Err-ReadFault-clause-demo g c = λ asked.
     absurd (input_is_no_demo (map string_bytes c.args.words.now) (c.in-Err-ReadFault.ensures.read (rw c.in-Err-ReadFault.field-0-is refl)) asked)
+
+pub returns-in_default-Ok-clause-untouched : goal.returns-in_default-Ok-clause-untouched
+returns-in_default-Ok-clause-untouched g c = λ either. elim either [
+  | inl is ↦ absurd (c.give_answer.ensures.answered.no_read_fault is)
+  | inr is ↦ absurd (c.give_answer.ensures.answered.some_memory is)
+]

@@ -5,7 +5,7 @@ use Rattle.pct_model.specs.declared.event.Event.{Event}
 use Rattle.pct_model.specs.Lines.{words_of}
 use Rattle.pct_report_reader.specs.Reading.{is_event}
 use Rattle.pct_event_reader.specs.EventReports.{events_of_words}
-use Rattle.pct_event_reader.proofs.ReportParts.{few_lines, lines_are_events, report_read, report_refused}
+use Rattle.pct_event_reader.proofs.ReportParts.{body_read, few_lines, lines_are_events, report_read, report_refused}
 use Rattle.pct_event_reader.proofs.reader.read_events.Goals as goal
 
 pub returns-in_err-report-clause-read : goal.returns-in_err-report-clause-read
@@ -26,3 +26,7 @@ pub returns-clause-read : goal.returns-clause-read
 returns-clause-read c =
     report_read c.args.text.now c.in_ok-report.report.config c.in_ok-report.report.lines c.in_ok-report.ensures.read c.of.result
     (ap (λ (lines : List Span). events_of_words (map (λ span. words_of (part_at c.args.text.now span)) lines)) (sym c.as_slice.ensures) ∙ c.in_ok-events.ensures.events ∙ ap (λ (events : List Event). Some events) (sym c.of.ensures))
+
+pub returns-in_err-events-clause-memory : goal.returns-in_err-events-clause-memory
+returns-in_err-events-clause-memory c = λ _.
+    body_read c.args.text.now (c.in_ok-report.report.config, c.in_ok-report.report.lines) c.in_ok-report.ensures.read

@@ -1,0 +1,2 @@
+pub mod ReadReports
+pub mod OneAudit

@@ -1,0 +1,2 @@
+pub mod ReportAudits
+pub mod AuditTexts
