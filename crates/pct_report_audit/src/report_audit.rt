@@ -12,7 +12,7 @@ use pct_report_reader::{ReportFault, ReportWhy};
 use std::alloc::Global;
 
 /// What the audit of a report says.
-#[derive(Clone, Copy, Debug, PartialEq, Eq)]
+#[derive(Clone, Copy)]
 pub enum ReportAudit {
     /// The events keep the laws: how many events the report has.
     Passed { events: u32 },
