@@ -6,3 +6,4 @@ pub mod OneOutcome
 pub mod NonEmptyTexts
 pub mod OneAnswer
 pub mod FirstSeeds
+pub mod PassedAudits

@@ -14,6 +14,7 @@ use Rattle.pct_schedule_laws.proofs.ReadBack.{report_is_read_back}
 use Rattle.pct_grammar.proofs.Scripts.{spells_one_script}
 use Rattle.pct_engine.specs.EngineStates.{EngineValue, IsRunOf}
 use Rattle.pct_engine.proofs.EngineLaws.{keeps_laws}
+use Rattle.pct_audit_laws.specs.RunsPass.{Passes, ReportsOfRunsPass}
 use Rattle.pct_tallies.specs.declared.tally.Tally.{Tally}
 use Rattle.pct_tallies.specs.Seeds.{first_seeds}
 use Rattle.pct_sample.specs.FirstSeeds.{AreFirstSeeds}
@@ -119,8 +120,8 @@ is-replayed words input engine after has read_back is_run = λ other again same_
     replay-outcome (keyword_text keyword.Replay ∷ []) again [] engine after replay_asks_replay (record { fits = fits; spelled = spelled }) (same ∙ read_back) is_run
 
 -- the events of a report keep the laws
-is-lawful : (words : List (List ℕ)) (input : List ℕ) (engine : EngineValue) (after : Run) → HasScript words input engine.script → IsRunOf engine after → IsLawful words input (text_of_run engine)
-is-lawful words input engine after has is_run = record {
+is-lawful : (passes : ReportsOfRunsPass) (words : List (List ℕ)) (input : List ℕ) (engine : EngineValue) (after : Run) → HasScript words input engine.script → IsRunOf engine after → IsLawful words input (text_of_run engine)
+is-lawful passes words input engine after has is_run = record {
   script = engine.script;
   spelled = has.spelled;
   config = engine.config;
@@ -130,6 +131,7 @@ is-lawful words input engine after has is_run = record {
   text_is = run-report engine after is_run;
   laws = (keeps_laws engine after is_run).laws;
   kept = (keeps_laws engine after is_run).kept;
+  audited = subst (Passes engine.config (length after.events)) (sym (run-text engine after is_run)) (passes engine.script engine.config engine.history after is_run);
 }
 
 -- the schedule of a report is read back
@@ -150,10 +152,10 @@ closed_code verdict.Budget closed e = absurd (omega (arith, e))
 closed_code (verdict.Undefined why) closed e = absurd (omega (arith, e))
 closed_code verdict.Open closed e = closed refl
 
-run-with_options : (words : List (List ℕ)) (input : List ℕ) (options : RunOptions) (script : Script) (entries : List Entry)
+run-with_options : (passes : ReportsOfRunsPass) (words : List (List ℕ)) (input : List ℕ) (options : RunOptions) (script : Script) (entries : List Entry)
     → run_options words ≡ Some options → HasScript words input script → WorkersSchedule script (options_for script options) entries
     → IsAnswer words input (code_of_answer (answer.Ran (with_options options script entries))) (text_of_run (with_options options script entries))
-run-with_options words input options script entries asked has worked =
+run-with_options passes words input options script entries asked has worked =
     let engine : EngineValue = with_options options script entries in
     let whole = worked.whole in
     let read_back = read-back engine whole.after whole.is_run in
@@ -162,40 +164,40 @@ run-with_options words input options script entries asked has worked =
     record {
       schedule = entries;
       is_outcome = Other (other_job words (run_job options) asked refl) (run-outcome words input options script entries whole.after asked has whole.is_run);
-      is_report = λ below. of-job words (run_job options) input entries _ _ asked (closed_run, (is-replayed words input engine whole.after has read_back whole.is_run, is-lawful words input engine whole.after has whole.is_run));
+      is_report = λ below. of-job words (run_job options) input entries _ _ asked (closed_run, (is-replayed words input engine whole.after has read_back whole.is_run, is-lawful passes words input engine whole.after has whole.is_run));
     }
 
 -- a run that the workers made from an engine of the script without entries is the answer of `run`
-pub run-answer : (words : List (List ℕ)) (input : List ℕ) (script : Script) (options : RunOptions) (opened engine : EngineValue)
+pub run-answer : (passes : ReportsOfRunsPass) (words : List (List ℕ)) (input : List ℕ) (script : Script) (options : RunOptions) (opened engine : EngineValue)
     → run_options words ≡ Some options → HasScript words input script → opened ≡ with_options options script []
     → (engine.script ≡ opened.script) × (engine.config ≡ opened.config) × WorkersSchedule opened.script (options_for script options) engine.history
     → IsAnswer words input (code_of_answer (answer.Ran engine)) (text_of_run engine)
-run-answer words input script options opened engine asked has opened_is made =
+run-answer passes words input script options opened engine asked has opened_is made =
     let script_is : engine.script ≡ script = made.0 ∙ ap (λ (e : EngineValue). e.script) opened_is in
     let config_is : engine.config ≡ config_for script options.config = made.1 ∙ ap (λ (e : EngineValue). e.config) opened_is in
     let same : with_options options script engine.history ≡ engine =
     ap (λ (s : Script). record engine { script = s; config = config_for script options.config }) (sym script_is)
     ∙ ap (λ (c : Config). record engine { config = c }) (sym config_is) in
     subst (λ (e : EngineValue). IsAnswer words input (code_of_answer (answer.Ran e)) (text_of_run e)) same
-    (run-with_options words input options script engine.history asked has (subst (λ (e : EngineValue). WorkersSchedule e.script (options_for script options) engine.history) opened_is made.2))
+    (run-with_options passes words input options script engine.history asked has (subst (λ (e : EngineValue). WorkersSchedule e.script (options_for script options) engine.history) opened_is made.2))
 
-replay-read : (words : List (List ℕ)) (input : List ℕ) (engine : EngineValue) (after : Run)
+replay-read : (passes : ReportsOfRunsPass) (words : List (List ℕ)) (input : List ℕ) (engine : EngineValue) (after : Run)
     → is_asked keyword.Replay words ≡ true → HasScript words input engine.script → sched_of (schedule_part input) ≡ Ok (engine.config, engine.history) → IsRunOf engine after
     → IsAnswer words input (code_of_answer (answer.Ran engine)) (text_of_run engine)
-replay-read words input engine after asked has read is_run =
+replay-read passes words input engine after asked has read is_run =
     let read_back = read-back engine after is_run in
     record {
       schedule = [];
       is_outcome = Other (other_job words Replay asked refl) (replay-outcome words input [] engine after asked has read is_run);
-      is_report = λ below. of-job words Replay input [] _ _ asked (read_back ∙ sym read, (is-replayed words input engine after has read_back is_run, is-lawful words input engine after has is_run));
+      is_report = λ below. of-job words Replay input [] _ _ asked (read_back ∙ sym read, (is-replayed words input engine after has read_back is_run, is-lawful passes words input engine after has is_run));
     }
 
-pub replay-answer : (words : List (List ℕ)) (input : List ℕ) (script : Script) (config : Config) (entries : List Entry) (engine : EngineValue)
+pub replay-answer : (passes : ReportsOfRunsPass) (words : List (List ℕ)) (input : List ℕ) (script : Script) (config : Config) (entries : List Entry) (engine : EngineValue)
     → is_asked keyword.Replay words ≡ true → HasScript words input script → sched_of (schedule_part input) ≡ Ok (config, entries) → engine ≡ record { script = script; config = config; history = entries } → (after : Run) × IsRunOf engine after
     → IsAnswer words input (code_of_answer (answer.Ran engine)) (text_of_run engine)
-replay-answer words input script config entries engine asked has read same runs =
+replay-answer passes words input script config entries engine asked has read same runs =
     subst (λ (e : EngineValue). (after : Run) → IsRunOf e after → IsAnswer words input (code_of_answer (answer.Ran e)) (text_of_run e)) (sym same)
-    (λ after is_run. replay-read words input (record { script = script; config = config; history = entries }) after asked has read is_run)
+    (λ after is_run. replay-read passes words input (record { script = script; config = config; history = entries }) after asked has read is_run)
     runs.0 runs.1
 
 -- the canonical text is the answer of `check`

@@ -15,6 +15,7 @@ use Rattle.pct_model.specs.Spells.{Spells}
 use Rattle.pct_model.specs.Schedule.{sched_of}
 use Rattle.pct_laws.specs.Kept.{Kept}
 use Rattle.pct_laws.specs.Laws.{Laws}
+use Rattle.pct_audit_laws.specs.RunsPass.{Passes}
 use Rattle.pct_model.specs.Report.{report}
 use Rattle.pct_model.specs.Run.{Run, first_illegal, run}
 use Rattle.pct_model.specs.RunOptions.{run_options}
@@ -100,7 +101,8 @@ IsReplayed words input code text =
 -- that of joins, requests and detaches (XSH 2.9.2, pthread_join, pthread_detach), those of mutexes, condition waits, wake-ups and what the
 -- threads of a process share (pthread_mutex_lock, pthread_cond_wait, pthread_cond_timedwait, pthread_cond_signal, sem_wait), that of once
 -- controls (pthread_once), that of the ids of threads and those of the threads and processes that are made (pthread_create, pthread_atfork,
--- fork, exit, waitpid). The state after it keeps the invariant.
+-- fork, exit, waitpid). The state after it keeps the invariant. The text is read back with the configuration and as many events as the run
+-- has, and their audit finds no fault.
 pub record IsLawful (words : List (List ℕ)) (input : List ℕ) (text : List ℕ) : Type 0 where
   pub script : Script
   pub spelled : Spells (script_part words input) script
@@ -111,6 +113,7 @@ pub record IsLawful (words : List (List ℕ)) (input : List ℕ) (text : List �
   pub text_is : report script config entries ≡ Some text
   pub laws : Laws script config entries after
   pub kept : Kept script config after.world after.events
+  pub audited : Passes config (length after.events) text
 
 -- what holds of a report, by the job that the words name: the schedule of a `replay` is that of the input; both are replayed, and
 -- keep the laws

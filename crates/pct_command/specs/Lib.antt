@@ -7,3 +7,4 @@ pub mod Audits
 pub mod Command
 pub mod Answer
 pub mod FirstSeeds
+pub mod PassedAudits

@@ -59,7 +59,8 @@ use std::thread::Threads;
 ///   at which a law fails, and the first law that fails there.
 ///
 /// With the answers of this list from `ScriptRefused` on the input was read to its end. `replay` of a report that was written
-/// gives the same bytes again, if the script, the line `%%` and the report have at most 16,777,216 bytes together.
+/// gives the same bytes again, if the script, the line `%%` and the report have at most 16,777,216 bytes together; and `audit` of a report that
+/// `run` or `replay` wrote answers `Complete`, if the report has at most that many bytes.
 ///
 /// - `ReadFault` comes only with `run`, `replay`, `check`, `sample`, `expect` and `audit`, and only if the source recorded an error in this call.
 ///   The sink is unchanged.

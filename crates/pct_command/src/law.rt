@@ -1,7 +1,8 @@
-//! The outcome of an input is unique, and so is the answer to it; and what a sample shows of single runs.
+//! The outcome of an input is unique, and so is the answer to it; what a sample shows of single runs; and that reports of runs pass `audit`.
 
 ghost use Rattle.pct_command.specs.Command.{AnswersAreOne, OutcomesAreOne};
 ghost use Rattle.pct_command.specs.FirstSeeds.{FirstSeedsReproduce};
+ghost use Rattle.pct_command.specs.PassedAudits.{ReportsPassAudit};
 
 /// An empty function whose contract states a theorem: words, an input and a schedule have at most one outcome, which is a
 /// status and a text.
@@ -20,4 +21,10 @@ pub fn answers_are_one()
 /// `run --seed S` to this input, for the first of their seeds, has the status of this verdict.
 pub fn first_seeds_reproduce()
     ensures { FirstSeedsReproduce }
+{}
+
+/// An empty function whose contract states a theorem: `audit` of the report of a run of `run` or `replay`, if it has at most 16,777,216 bytes,
+/// answers that its events keep the laws, and how many there are.
+pub fn reports_pass_audit()
+    ensures { ReportsPassAudit }
 {}

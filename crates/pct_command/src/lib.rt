@@ -24,7 +24,7 @@ pub use answers::Refusal;
 pub use arguments::words_of;
 pub use dispatch::command;
 pub use in_memory::answer;
-pub use law::{answers_are_one, first_seeds_reproduce, outcomes_are_one};
+pub use law::{answers_are_one, first_seeds_reproduce, outcomes_are_one, reports_pass_audit};
 pub use pct_model::RunOptions;
 pub use seeded_run::continue_seeded;
 pub use status::Status;

@@ -9,6 +9,7 @@ ghost use Rattle.pct_model.specs.declared.keyword.Keyword.TheVariants as keyword
 ghost use Rattle.pct_command.specs.Answer.{Answered, HasScript};
 
 use crate::answers::{Answer, Refusal};
+use pct_audit_laws::reports_of_runs_pass;
 use pct_history::{Entries, ReplayFault, ScheduleFault, read_schedule, replay};
 use pct_io::NoMemory;
 use pct_model::{Config, Script};
@@ -32,7 +33,7 @@ pub(crate) fn replay_script(
     }
 }
 
-// The answer of `replay` to a script and a schedule.
+// The answer of `replay` to a script and a schedule. The call of `reports_of_runs_pass` does nothing: its contract is a theorem.
 fn replay_entries(
     alloc: Global,
     script: Script,
@@ -44,7 +45,10 @@ fn replay_entries(
     ensures { (words : List (List ℕ)) (input : List ℕ) → is_asked keyword.Replay words ≡ true → HasScript words input script → sched_of (schedule_part input) ≡ IsRead (config, entries) → Answered words input result }
 {
     match replay(alloc, script, config, entries) {
-        Ok(engine) => Ok(Answer::Ran(engine)),
+        Ok(engine) => {
+            reports_of_runs_pass();
+            Ok(Answer::Ran(engine))
+        }
         Err(ReplayFault::NotLegal { entry_number }) => {
             Ok(Answer::Refused(Refusal::Entry { entry_number }))
         }
