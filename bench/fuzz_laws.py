@@ -83,7 +83,7 @@ class Laws:
     def try_input(self, number):
         """Makes the input of a number, and checks what holds of it."""
         self.inputs = Inputs(f"{self.seed} {number}", self.texts)
-        ways = [(self.try_script, 40), (self.try_changed_script, 14), (self.try_changed_replay, 16), (self.try_view, 10), (self.try_expect, 9), (self.try_seed, 8),
+        ways = [(self.try_script, 40), (self.try_changed_script, 14), (self.try_changed_replay, 16), (self.try_view, 10), (self.try_expect, 9), (self.try_audit, 6), (self.try_seed, 8),
                 (self.try_workers, 2), (self.try_tallies, 1), (self.try_changed_tallies, 2), (self.try_sample, 1), (self.try_survey, 2)]
         self.inputs.random.choices([way for way, _ in ways], [weight for _, weight in ways])[0]()
 
@@ -126,6 +126,7 @@ class Laws:
         if at is None:
             return
         self.try_rules(lines[1:at], report)
+        self.equal("the report of a run keeps the laws of an audit", ["audit"], report, (0, b"audit ok %d\n" % (at - 1)))
         header, entries = lines[at + 1], lines[at + 2:-1]
         if inputs.chance(0.5):
             self.try_prefix(text, header, entries[:inputs.random.randint(0, len(entries))])
@@ -275,6 +276,14 @@ class Laws:
             report = self.answer(["run", *self.options()], inputs.script())[1]
         text = inputs.rules(report.decode().splitlines()[1:4]) * inputs.one(1, 1, 1, 1, 1, 70) + MARKER + report
         self.answer(["expect"], inputs.changed(text) if inputs.chance(0.8) else text)
+
+    def try_audit(self):
+        """Reports that are made or changed."""
+        inputs = self.inputs
+        report = inputs.report()
+        if inputs.chance(0.7):
+            report = self.answer(["run", *self.options()], inputs.script())[1]
+        self.answer(["audit"], inputs.changed(report) if inputs.chance(0.8) else report)
 
     def try_tallies(self):
         """The tally of two ranges is the sum of their tallies."""

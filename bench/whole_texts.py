@@ -12,7 +12,7 @@ VERDICTS = {"complete": 0, "deadlock": 1, "budget": 2, "open": 4}
 # The statuses of each command, where no read, no write and no allocation failed, the words are accepted and the input is not too long.
 VIEWS = {0, 1, 2, 3, 4, 6, 7}
 STATUSES = {
-    "run": {0, 1, 2, 3, 6}, "replay": {0, 1, 2, 3, 4, 6, 7}, "check": {0, 6}, "sample": {0, 6}, "expect": {0, 13, 14, 15}, "points": {0}, "demo": {0},
+    "run": {0, 1, 2, 3, 6}, "replay": {0, 1, 2, 3, 4, 6, 7}, "check": {0, 6}, "sample": {0, 6}, "expect": {0, 13, 14, 15}, "audit": {0, 12, 13}, "points": {0}, "demo": {0},
     "continue": {0, 1, 2, 3, 6, 7}, "trace": VIEWS, "choices": VIEWS, "states": VIEWS, "lanes": VIEWS, "picture": VIEWS,
     "tally": {0, 6}, "sum": {0, 16}, "survey": {0, 6, 14, 15},
 }
@@ -33,6 +33,7 @@ TALLY = re.compile(
     rf"(?:sample {NUMBER}\n|tally {NUMBER} {NUMBER}\nscript [0-9a-f]{{64}}\nlimits {NUMBER} {NUMBER} {NUMBER}\n)"
     rf"complete {FIRST}\ndeadlock {FIRST}\nbudget {FIRST}\n(?:{STOP} {NUMBER} first {NUMBER}\n)*joined {NUMBER}\ncanceled {NUMBER}\nleast {NUMBER}\nmost {NUMBER}\n"
 )
+AUDIT = {0: re.compile(rf"audit ok {NUMBER}\n"), 12: re.compile(rf"audit event {NUMBER} (?:once|slot|join|cond|call_once)\n")}
 DEMO = re.compile(rf"demo {NUMBER}\nthreads {NUMBER}\nrounds {NUMBER}\nsteps {NUMBER}\ntotal {NUMBER}\nverdict (?:complete|{STOP})\n")
 POINTS = re.compile(r"(?:[a-z_0-9]+ (?:required|optional) (?:no_wait|outside|never|inside)\n){58}")
 SURVEY = re.compile(
@@ -190,6 +191,8 @@ def body_fault(command, text, status):
         return check_fault(lines)
     if command == "expect":
         return expect_fault(lines, status)
+    if command == "audit":
+        return None if AUDIT[status].fullmatch(text) else "no answer of this status"
     if command == "survey":
         failed = re.search(r"\tfails [1-9]", text)
         return None if SURVEY.fullmatch(text) and (status == 14) == bool(failed) else "no whole survey"
@@ -203,6 +206,8 @@ def features(command, status, output):
     lines = output.decode(errors="replace").splitlines()
     if lines and lines[0].startswith("refused "):
         found.add(" ".join(word for word in lines[0].split(" ") if not word.isdigit()))
+    elif command == "audit":
+        found.add(" ".join(word for word in lines[0].split(" ") if not word.isdigit()) if lines else "no answer")
     elif command in ("run", "replay", "continue"):
         at = next((i for i, line in enumerate(lines) if line.startswith("verdict ")), 0)
         found.update(f"event {event_form(line)}" for line in lines[1:at])
