@@ -22,12 +22,19 @@ use Rattle.pct_inspection.specs.Inputs.{script_in}
 use Rattle.pct_inspection.specs.Inspection.{prefix_for, notice, code_by, FollowsPrefix, code_after, IsInspected}
 use Rattle.pct_inspection.specs.Inspection as outcome
 use Rattle.pct_inspection.specs.Answer.{code_of_answer, status_by, status_of_answer, text_of_answer, Answered, AsksFor, HasScript}
-use Rattle.pct_inspection.specs.Shown.{IsInForm, ShowsState, ShowsTrace, state_text, verdict_after}
+use Rattle.pct_inspection.specs.Shown.{IsInForm, ShowsState, ShowsStateAfter, ShowsTrace, state_text, verdict_after}
 
 -- the code of a verdict, or that of a refused schedule
 code_by_verdict : (illegal : Option ℕ) (v : Verdict) → code_of (status_by illegal (status_of_verdict v)) ≡ code_by illegal (code_of_verdict v)
 code_by_verdict None v = code-is v
 code_by_verdict (Some entry_number) v = refl
+
+-- the state after the run of an engine that has followed the entries of a prefix is the state after the run of these entries
+pub state-after : {E : Type 0} {script : Script} {config : Config} {entries : List Entry} {engine : EngineValue} {illegal : Option ℕ} (shown : View) (lines : List (List ℕ))
+    → Follows script config entries engine illegal → (after : Run) → IsRunOf engine after → (r : Result Answer E)
+    → IfOk r (ShowsState (state_text shown lines engine after) engine after illegal) → IfOk r (ShowsStateAfter shown lines script config entries)
+state-after shown lines follows after is_run (Ok a) shows = record { illegal = _; engine = _; follows = follows; after = after; is_run = is_run; shows = shows }
+state-after shown lines follows after is_run (Err e) shows = tt
 
 module _ (words : List (List ℕ)) (input : List ℕ) (script : Script) (config : Config) (entries : List Entry) (has : HasScript input script) (read : prefix_for script input ≡ Ok (config, entries)) where
   module _ (engine : EngineValue) (illegal : Option ℕ) (follows : Follows script config entries engine illegal) (after : Run) (is_run : IsRunOf engine after) where
@@ -105,11 +112,11 @@ module _ (words : List (List ℕ)) (input : List ℕ) (script : Script) (config 
       steps_shown form.Picture asked text_is = outcome.Drawn (record { shown = form.Picture; drawn = refl; asked = asked; prefix = prefix; code_is = code_is })
 
   -- the answer of a view of the state, unless memory ran out
-  pub state-answered : {E : Type 0} (engine : EngineValue) (illegal : Option ℕ) (after : Run) (lines : List (List ℕ)) (shown : View) (r : Result Answer E)
-      → Follows script config entries engine illegal → IsRunOf engine after → lines ≡ statement_lines (script_in input) → ((shown ≡ view.Choices) ⊎ (shown ≡ view.States))
-      → AsksFor words (inspection.Show shown) → IfOk r (ShowsState (state_text shown lines engine after) engine after illegal) → Answered words input r
-  state-answered engine illegal after lines shown (Ok a) follows is_run of_input of_state asked shows = state_listed engine illegal follows after is_run a shows.status_is lines of_input shown of_state asked shows.text_is
-  state-answered engine illegal after lines shown (Err e) follows is_run of_input of_state asked shows = tt
+  pub state-answered : {E : Type 0} (lines : List (List ℕ)) (shown : View) (r : Result Answer E)
+      → lines ≡ statement_lines (script_in input) → ((shown ≡ view.Choices) ⊎ (shown ≡ view.States))
+      → AsksFor words (inspection.Show shown) → IfOk r (ShowsStateAfter shown lines script config entries) → Answered words input r
+  state-answered lines shown (Ok a) of_input of_state asked shows = state_listed shows.engine shows.illegal shows.follows shows.after shows.is_run a shows.shows.status_is lines of_input shown of_state asked shows.shows.text_is
+  state-answered lines shown (Err e) of_input of_state asked shows = tt
 
   -- the answer that shows the steps in a form, unless memory ran out
   pub steps-answered : {E : Type 0} (shown : Form) (illegal : Option ℕ) (lines : List (List ℕ)) (text : List ℕ) (v : Verdict) (r : Result Answer E)

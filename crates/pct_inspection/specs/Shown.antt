@@ -6,7 +6,7 @@ use Rattle.pct_model.specs.declared.script.Script.{Script}
 use Rattle.pct_model.specs.declared.stop.Verdict.{Verdict}
 use Rattle.pct_model.specs.Run.{Run, run, verdict_of}
 use Rattle.pct_command.specs.Answer.{status_of_verdict}
-use Rattle.pct_engine.specs.EngineStates.{EngineValue}
+use Rattle.pct_engine.specs.EngineStates.{EngineValue, IsRunOf}
 use Rattle.pct_history.specs.Replays.{Follows}
 use Rattle.pct_view_texts.specs.Choices.{choices_text}
 use Rattle.pct_view_texts.specs.States.{states_text}
@@ -33,6 +33,15 @@ state_text (view.Steps shown) lines engine after = []
 pub record ShowsState (shown : List ℕ) (engine : EngineValue) (after : Run) (illegal : Option ℕ) (a : Answer) : Type 0 where
   pub status_is : status_of_answer a ≡ status_by illegal (status_of_verdict (verdict_after engine after))
   pub text_is : text_of_answer a ≡ shown ++ notice illegal
+
+-- the answer that shows a view of the state after the run of the entries of a prefix up to the first that is not legal, and the notice
+pub record ShowsStateAfter (shown : View) (lines : List (List ℕ)) (script : Script) (config : Config) (entries : List Entry) (a : Answer) : Type 0 where
+  pub illegal : Option ℕ
+  pub engine : EngineValue
+  pub follows : Follows script config entries engine illegal
+  pub after : Run
+  pub is_run : IsRunOf engine after
+  pub shows : ShowsState (state_text shown lines engine after) engine after illegal a
 
 -- the text of `trace` and the notice, and the verdict, of the run of the entries of a prefix up to the first that is not legal, which has this
 -- number

@@ -1,16 +1,17 @@
 //! Writing of an answer.
 
-ghost use Rattle.std.specs.Prelude.{◌++◌};
+ghost use Rattle.std.specs.Prelude.{◌≡◌, ◌++◌};
 ghost use Rattle.pct_io.specs.Writes.{Writes};
 ghost use Rattle.pct_model.specs.Keywords.{line_text};
 ghost use Rattle.pct_command.specs.Answer.{text_of_run};
-ghost use Rattle.pct_inspection.specs.Answer.{text_of_answer};
+ghost use Rattle.pct_command.specs.Status.{IsAnswered};
+ghost use Rattle.pct_inspection.specs.Answer.{status_of_answer, text_of_answer};
 ghost use Rattle.pct_inspection.specs.Inspection.{notice};
 ghost use Rattle.pct_inspection.specs.SurveyOutcomes.{refused_expect};
 ghost use Rattle.pct_inspection.specs.TallyOutcomes.{refused_tally};
 
 use crate::answer::Answer;
-use pct_command::write_refusal;
+use pct_command::{Status, write_refusal};
 use pct_engine::Engine;
 use pct_expect::ExpectWhy;
 use pct_io::{Failed, Field, Sink, write_all, write_line};
@@ -19,8 +20,20 @@ use pct_report::write_report;
 use pct_survey::write_survey;
 use pct_tallies::{TallyWhy, write_range_tally};
 
-/// Writes an answer: the line of a refusal, the report of a run and the notice after it, a view, a tally, or a survey.
-pub(crate) fn write_answer<K: Sink>(answer: &Answer, sink: &mut K) -> Result<(), Failed>
+/// Writes an answer, drops it, and returns its status and whether it was written.
+pub(crate) fn give_answer<K: Sink>(answer: Answer, sink: &mut K) -> (Status, Result<(), Failed>)
+    ensures status { result.0 ≡ status_of_answer answer }
+    ensures answered { IsAnswered result.0 }
+    ensures written { Writes K.written K.errors K.inners sink.old sink.new (text_of_answer answer) result.1 }
+{
+    let status = answer.status();
+    let written = write_answer(&answer, sink);
+    drop(answer);
+    (status, written)
+}
+
+// Writes an answer: the line of a refusal, the report of a run and the notice after it, a view, a tally, or a survey.
+fn write_answer<K: Sink>(answer: &Answer, sink: &mut K) -> Result<(), Failed>
     ensures { Writes K.written K.errors K.inners sink.old sink.new (text_of_answer answer.now) result }
 {
     match answer {

@@ -9,7 +9,7 @@ ghost use Rattle.pct_inspection.specs.TallyOutcomes.{IsAccepted};
 ghost use Rattle.pct_inspection.specs.Words.{is_inspection};
 
 use crate::answer::{Answer, Unanswered};
-use crate::answer_writer::write_answer;
+use crate::answer_writer::give_answer;
 use crate::answering::answer_input;
 use crate::resources::Resources;
 use crate::words::{Inspection, read_inspection, selection_in};
@@ -104,9 +104,9 @@ pub fn inspect<R: Threads + Sync, S: Source, K: Sink>(
 {
     let resources = Resources { rt, alloc };
     match answer_words(&resources, words, source) {
-        Ok(answer) => match write_answer(&answer, sink) {
-            Ok(()) => answer.status(),
-            Err(Failed) => Status::WriteFault,
+        Ok(answer) => match give_answer(answer, sink) {
+            (status, Ok(())) => status,
+            (_, Err(Failed)) => Status::WriteFault,
         },
         Err(Unanswered::ReadFault) => Status::ReadFault,
         Err(Unanswered::NoMemory) => Status::NoMemory,

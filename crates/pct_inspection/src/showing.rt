@@ -9,17 +9,17 @@ ghost use Rattle.pct_inspection.specs.declared.words.Inspection.TheVariants as i
 ghost use Rattle.pct_inspection.specs.Answer.{Answered, AsksFor, HasParts};
 ghost use Rattle.pct_inspection.specs.Inputs.{script_in};
 ghost use Rattle.pct_inspection.specs.Inspection.{notice};
-ghost use Rattle.pct_inspection.specs.Shown.{IsInForm, ShowsState, ShowsTrace, state_text};
+ghost use Rattle.pct_inspection.specs.Shown.{IsInForm, ShowsState, ShowsStateAfter, ShowsTrace, state_text};
 
 use crate::answer::Answer;
 use crate::answer_writer::write_notice;
 use crate::words::{Form, View};
 use pct_command::Refusal;
 use pct_engine::Engine;
-use pct_history::{ScheduleFault, follow, read_prefix};
+use pct_history::{Entries, ScheduleFault, follow, read_prefix};
 use pct_io::{Failed, NoMemory};
 use pct_lanes::{Selection, lanes, picture};
-use pct_model::{Entry, Script, Verdict, format_of};
+use pct_model::{Config, Entry, Script, Verdict, format_of};
 use pct_script::{StatementLines, statement_lines};
 use pct_view_texts::{TextBuffer, push_choices, push_states, push_trace};
 use std::alloc::Global;
@@ -31,6 +31,14 @@ pub(crate) struct Parts<'a> {
     pub text: &'a [u8],
     /// The prefix of a schedule.
     pub prefix: &'a [u8],
+}
+
+// The run of a prefix: its script, and the configuration and the entries that were read.
+#[derive(Drop)]
+struct PrefixRun {
+    script: Script,
+    config: Config,
+    entries: Entries,
 }
 
 // The steps of a run: what `trace` shows with the notice, the verdict, and the number of the first entry of the prefix that is not legal, if
@@ -57,17 +65,20 @@ pub(crate) fn show_script(
 {
     let lines = statement_lines(alloc, parts.text)?;
     match read_prefix(alloc, parts.prefix, format_of(&script)) {
-        Ok((config, entries)) => match view {
-            View::Choices | View::States => {
-                let (engine, illegal) = follow(alloc, script, config, entries)?;
-                show_state(alloc, view, &lines, &engine, illegal)
+        Ok((config, entries)) => {
+            let run = PrefixRun {
+                script,
+                config,
+                entries,
+            };
+            match view {
+                View::Choices | View::States => show_state(alloc, view, &lines, run),
+                View::Steps(form) => {
+                    let steps = trace(alloc, &lines, run, form)?;
+                    in_form(alloc, form, selection, steps)
+                }
             }
-            View::Steps(form) => {
-                let mut engine = Engine::open(alloc, script, config)?;
-                let steps = trace(alloc, &lines, &mut engine, entries.as_slice(), form)?;
-                in_form(alloc, form, selection, steps)
-            }
-        },
+        }
         Err(ScheduleFault::Refused { line, why }) => {
             Ok(Answer::Refused(Refusal::Schedule { line, why }))
         }
@@ -75,8 +86,25 @@ pub(crate) fn show_script(
     }
 }
 
-// The answer that shows a view of the state after the run of an engine that followed a prefix.
+// The answer that shows a view of the state after the run of a prefix, up to the first entry that is not legal.
 fn show_state(
+    alloc: Global,
+    view: View,
+    lines: &StatementLines,
+    run: PrefixRun,
+) -> Result<Answer, NoMemory>
+    requires config { IsTrue (is_config run.config) }
+    requires few { length run.entries ≤ run.config.budget }
+    ensures { IfOk result (ShowsStateAfter view lines.now run.script run.config run.entries) }
+{
+    let (engine, illegal) = follow(alloc, run.script, run.config, run.entries)?;
+    let answer = show_reached(alloc, view, lines, &engine, illegal);
+    drop(engine);
+    answer
+}
+
+// The answer that shows a view of the state after the run of an engine that followed a prefix.
+fn show_reached(
     alloc: Global,
     view: View,
     lines: &StatementLines,
@@ -115,9 +143,27 @@ fn push_state(
     }
 }
 
+// The text of `trace` for the run of a prefix, up to the first entry that is not legal; and what is to be drawn in this form of the state
+// after it.
+fn trace(
+    alloc: Global,
+    lines: &StatementLines,
+    run: PrefixRun,
+    form: Form,
+) -> Result<Steps, NoMemory>
+    requires config { IsTrue (is_config run.config) }
+    requires few { length run.entries ≤ run.config.budget }
+    ensures { IfOk result (λ steps. ShowsTrace lines.now run.script run.config run.entries steps.illegal (text_in steps.text) steps.verdict) }
+{
+    let mut engine = Engine::open(alloc, run.script, run.config)?;
+    let steps = trace_entries(alloc, lines, &mut engine, run.entries.as_slice(), form);
+    drop(engine);
+    steps
+}
+
 // The text of `trace` for the entries of a prefix, up to the first that is not legal, with an engine without entries; and what is to be
 // drawn in this form of the state after them.
-fn trace(
+fn trace_entries(
     alloc: Global,
     lines: &StatementLines,
     engine: &mut Engine,

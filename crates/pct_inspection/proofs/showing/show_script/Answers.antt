@@ -1,25 +1,20 @@
-use Rattle.pct_names.proofs.Names.{ap, Entry, List, refl, subst, ◌∙◌}
+use Rattle.pct_names.proofs.Names.{ap, refl, subst, ◌∙◌}
 use Rattle.pct_script.specs.StatementLines.{statement_lines}
-use Rattle.pct_engine.specs.EngineStates.{EngineValue}
 use Rattle.pct_view_texts.specs.TextBuffers.{text_in}
 use Rattle.pct_inspection.specs.declared.words.Inspection.TheVariants as inspection
 use Rattle.pct_inspection.specs.declared.words.View.{View}
 use Rattle.pct_inspection.specs.Answer.{AsksFor}
-use Rattle.pct_inspection.specs.Shown.{ShowsTrace}
 use Rattle.pct_inspection.proofs.Outcomes.{prefix-answer}
 use Rattle.pct_inspection.proofs.Views.{state-answered, steps-answered}
 use Rattle.pct_inspection.proofs.showing.show_script.Goals as goal
 
 pub returns-in-Choices : goal.returns-in-Choices
 returns-in-Choices c = λ words input asks has of_text.
-    let runs = c.show_state.ensures.runs in
-    let followed = c.in_ok-engine-in-Choices in
-    state-answered words input c.args.script c.in-Ok.config c.in-Ok.entries has.has_script (rw (c.format_of.ensures, has.rest) at c.in-Ok.ensures.read) followed.engine followed.illegal runs.0 c.in_ok-lines.lines c.args.view c.show_state.result
-    followed.ensures.followed runs.1
+    state-answered words input c.args.script c.in-Ok.config c.in-Ok.entries has.has_script (rw (c.format_of.ensures, has.rest) at c.in-Ok.ensures.read) c.in_ok-lines.lines c.args.view c.show_state.result
     (c.in_ok-lines.ensures ∙ ap statement_lines of_text)
     c.in-Choices.is
     asks
-    (c.show_state.ensures.shown runs.0 runs.1)
+    c.show_state.ensures
 
 pub returns-in-Ok : goal.returns-in-Ok
 returns-in-Ok c = λ words input asks has of_text.
@@ -28,8 +23,7 @@ returns-in-Ok c = λ words input asks has of_text.
     steps-answered words input c.args.script c.in-Ok.config c.in-Ok.entries has.has_script (rw (c.format_of.ensures, has.rest) at c.in-Ok.ensures.read) c.in-Steps.form shown.illegal c.in_ok-lines.lines (text_in shown.text) shown.verdict c.in_form.result
     (subst (λ (view : View). AsksFor words (inspection.Show view)) c.in-Steps.is asks)
     (c.in_ok-lines.ensures ∙ ap statement_lines of_text)
-    (subst (λ (entries : List Entry). ShowsTrace c.in_ok-lines.lines c.args.script c.in-Ok.config entries shown.illegal (text_in shown.text) shown.verdict) c.as_slice.ensures
-    (subst (λ (e : EngineValue). ShowsTrace c.in_ok-lines.lines e.script e.config c.as_slice.result.now shown.illegal (text_in shown.text) shown.verdict) c.in_ok-engine-in-Steps.ensures steps.ensures))
+    steps.ensures
     c.in_form.ensures
 
 pub returns-in-Err-Refused : goal.returns-in-Err-Refused

@@ -1,21 +1,12 @@
-use Rattle.pct_names.proofs.Names.{◌++◌, ap, List, ℕ, ◌∙◌}
+use Rattle.pct_names.proofs.Names.{Entry, IfOk, List, subst}
 use Rattle.pct_engine.specs.EngineStates.{EngineValue}
-use Rattle.pct_view_texts.specs.Trace.{trace_text}
-use Rattle.pct_inspection.specs.Inspection.{notice}
+use Rattle.pct_view_texts.specs.TextBuffers.{text_in}
+use Rattle.pct_inspection.specs.Shown.{ShowsTrace}
 use Rattle.pct_inspection.proofs.showing.trace.Goals as goal
 
 pub returns : goal.returns
 returns c =
-    let runs = c.verdict.ensures.runs in
-    let engine : EngineValue = c.push_trace.new.engine in
-    record {
-      engine = engine;
-      follows = c.in_ok-illegal.ensures.follows;
-      after = runs.0;
-      is_run = runs.1;
-      text_is =
-          c.in_ok-push_notice.ensures
-          ∙ ap (λ (text : List ℕ). text ++ notice c.in_ok-illegal.illegal)
-          (c.in_ok-illegal.ensures.text runs.0 runs.1 ∙ ap (λ (text : List ℕ). text ++ trace_text c.args.lines.now engine.script engine.config engine.history runs.0) c.new-text.ensures);
-      verdict_is = c.verdict.ensures.value runs.0 runs.1;
-    }
+    let run = c.args.run in
+    let traced = c.trace_entries-steps.result in
+    subst (λ (entries : List Entry). IfOk traced (λ steps. ShowsTrace c.args.lines.now run.script run.config entries steps.illegal (text_in steps.text) steps.verdict)) c.as_slice.ensures
+    (subst (λ (e : EngineValue). IfOk traced (λ steps. ShowsTrace c.args.lines.now e.script e.config c.as_slice.result.now steps.illegal (text_in steps.text) steps.verdict)) c.in_ok-engine.ensures c.trace_entries-steps.ensures)
