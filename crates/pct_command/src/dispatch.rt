@@ -23,17 +23,17 @@ use std::thread::Threads;
 /// Performs the command that the words name on the bytes of the source, and writes the answer to the sink.
 ///
 /// The words are `run` and its options (`--budget N`, `--passes N`, `--slots N`, `--seed N`, `--workers N` and `--turns N`, each also as
-/// `--budget=N`), `sample` and a number of seeds from 1 to 10,000, `demo` and a number, or `replay`, `check`, `points`, `expect` or `audit` alone. `run` reads a
-/// script and runs it: 1 to 16 workers take turns, on threads of their own if threads can be made, and a worker that gets a turn makes one
-/// step, which two words of its random stream choose under the seed. When each worker has taken its turns, number 0 makes the steps that are
-/// left, by its own stream. `replay` reads a script, a line `%%`, and a schedule or a whole report, and runs the script under that schedule.
-/// Both write a report. `check` reads a script and writes its canonical text. `sample` reads a script, runs it as `run` does under each seed
-/// from 1 to the number, and writes how many of the runs ended in which way, and the first seed of each. `points` reads nothing and writes the
-/// table of cancellation points (XSH 2.9.5.2). `demo` reads nothing, runs the script that is generated from the number, where the number of
-/// steps so far chooses each step, and writes a summary of the run. `expect` reads rules, a line `%%` and a report, and writes which of the rules
-/// hold of the events in the report, and how many do not; without the line the report is empty. `audit` reads a report, with no script, and writes
-/// whether its events keep the laws of cleanup handlers, of thread ids and slots, of joins, of mutexes and condition waits, and of pthread_once. A
-/// refusal is one line that names the reason.
+/// `--budget=N`), `sample` and a number of seeds from 1 to 10,000, `demo` and a number, or `replay`, `check`, `points`, `expect` or `audit` alone.
+/// `run` reads a script and runs it: 1 to 16 workers take turns, on threads of their own if threads can be made, and a worker that gets a turn
+/// makes one step, which two words of its random stream choose under the seed. When each worker has taken its turns, number 0 makes the steps that
+/// are left, by its own stream. `replay` reads a script, a line `%%`, and a schedule or a whole report, and runs the script under that schedule.
+/// Both write a report. `check` reads a script and writes its canonical text. `sample` reads a script, runs it as `run` does under each seed from 1
+/// to the number, and writes how many of the runs ended in which way, and the first seed of each. `points` reads nothing and writes the table of
+/// cancellation points (XSH 2.9.5.2). `demo` reads nothing, runs the script that is generated from the number, where the number of steps so far
+/// chooses each step, and writes a summary of the run. `expect` reads rules, a line `%%` and a report, and writes which of the rules hold of the
+/// events in the report, and how many do not; without the line the report is empty. `audit` reads a report, with no script, and writes whether its
+/// events keep the laws of cleanup handlers, of thread ids and slots, of joins, of mutexes and condition waits, and of pthread_once. A refusal is
+/// one line that names the reason.
 ///
 /// With one worker the report is that of the seed. With several workers it depends on how their threads run, and which one it is, is not
 /// promised; it names the worker of each step. The gate is called before each turn of a worker. It can delay the worker, and has no other
@@ -53,14 +53,15 @@ use std::thread::Threads;
 /// - `Complete`, `Deadlock`, `Budget`, `Undefined` or `Open`: the report of a run with this verdict was written. `run` never
 ///   answers `Open`.
 /// - `ExpectRefused`, only from `expect`: the text of the rules has a fault.
-/// - `ReportRefused`, only from `expect` and `audit`: the text of the report has a fault. With `expect` its lines are counted after the line `%%`.
+/// - `ReportRefused`, only from `expect` and `audit`: the text of the report has a fault. With `expect` its lines are counted after the
+///   line `%%`.
 /// - `Complete` or `ExpectFailed`, from `expect`: which rules hold was written; `Complete` exactly if each of them holds.
 /// - `Complete` or `AuditFailed`, from `audit`: the number of events was written if they keep the laws, and with `AuditFailed` the first event
 ///   at which a law fails, and the first law that fails there.
 ///
-/// With the answers of this list from `ScriptRefused` on the input was read to its end. `replay` of a report that was written
-/// gives the same bytes again, if the script, the line `%%` and the report have at most 16,777,216 bytes together; and `audit` of a report that
-/// `run` or `replay` wrote answers `Complete`, if the report has at most that many bytes.
+/// With the answers of this list from `ScriptRefused` on the input was read to its end. `replay` of a report that was written gives the
+/// same bytes again, if the script, the line `%%` and the report have at most 16,777,216 bytes together; and `audit` of a report that `run`
+/// or `replay` wrote answers `Complete`, if the report has at most that many bytes.
 ///
 /// - `ReadFault` comes only with `run`, `replay`, `check`, `sample`, `expect` and `audit`, and only if the source recorded an error in this call.
 ///   The sink is unchanged.

@@ -1,6 +1,6 @@
 //! The top call: `command` reads words and an input. It runs the script of the input, replays a schedule of it, counts what happens under
-//! many seeds, writes its canonical text, judges the events in a report by rules, or audits them. Without an input it writes the table of cancellation
-//! points, or runs a generated script.
+//! many seeds, writes its canonical text, judges the events in a report by rules, or audits them. Without an input it writes the table of
+//! cancellation points, or runs a generated script.
 #![tactic(auto)]
 
 mod answer_writer;
