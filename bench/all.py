@@ -4,8 +4,8 @@
     bench/all.py [PROGRAM]
 
 PROGRAM is the built program, crates/pct_run/out/pct_run where none is named (./pct build builds it, and pct_inspect, which has
-to be built, too). The checks are all files bench/check_*.py, bench/conformance.py with --check and with --run, and bench/laws.py
-on a small number of runs. A check gets the program if its usage names it.
+to be built, too). The checks are all files bench/check_*.py, bench/public_calls.py and bench/conformance.py with --check,
+bench/conformance.py with --run, and bench/laws.py on a small number of runs. A check gets the program if its usage names it.
 
 For each check its words and its last line are printed, `N passed, M failed`; above them all that it printed, if a part of it
 failed. A check without such a line, or without an end in ten minutes, or that checked nothing, or whose status does not fit its
@@ -31,6 +31,7 @@ def checks(program):
     for path in sorted(BENCH.glob("check_*.py")):
         takes_program = re.search(rf"^    bench/{path.name} .*\bPROGRAM\b", path.read_text(), re.M)
         yield [path.name, program] if takes_program else [path.name]
+    yield ["public_calls.py", "--check"]
     yield ["conformance.py", "--check"]
     yield ["conformance.py", "--run", shlex.join([program, "replay"])]
     yield ["laws.py", program, "--runs", RUNS]

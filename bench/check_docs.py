@@ -23,6 +23,8 @@ What is checked:
 - Stops. The table of stops in FORMATS.md has all stops that the definitions know, and no others. docs/reasons.txt has
   each, with the use and the rule of the table, a usual cause and a way to mend it.
 - Deadlocks. docs/reasons.txt has each wait of the table in SCRIPT.md, with the same usual cause and way to mend it.
+- Laws. THEOREM.md, from which ./pct shows the sentence of a law that fails, FORMATS.md and scripts/explain.sh have all laws that `judge`
+  names, in the order of its lines.
 - Faults and causes. Each fault in a word and each cause in a run that the scripts of ./pct find has a mend in docs/forms.txt or
   docs/reasons.txt, and each mend there belongs to one.
 
@@ -279,6 +281,26 @@ def lists():
     yield "docs/FORMATS.md: the stops in its tables", names(rows), names(known_stops())
 
 
+def known_laws():
+    """The words of the laws that `judge` names, in the order of its lines."""
+    findings = (ROOT / "crates/pct_event_judge/specs/Findings.antt").read_text()
+    texts = (ROOT / "crates/pct_report_judge/specs/FindingsTexts.antt").read_text()
+    words = dict(re.findall(r'^law_text law\.(\w+) = codes "(\S+)"$', texts, re.M))
+    return [words[law] for law in re.findall(r"law\.(\w+)", findings.partition("\nevent_laws =\n")[2].partition("\n\n")[0])]
+
+
+def laws():
+    """For each list of the laws that `judge` names: where it is, what is in it, and what the definitions want there."""
+    wanted = ", ".join(known_laws())
+    rows = (ROOT / "docs/THEOREM.md").read_text().partition("\n### The laws of events alone\n")[2].partition("\n## ")[0]
+    yield "docs/THEOREM.md: the laws of events alone", ", ".join(re.findall(r"^\| `([a-z_]+)` \| `", rows, re.M)), wanted
+    rows = (ROOT / "docs/FORMATS.md").read_text().partition("\n| LAW | Fails at |\n|---|---|\n| `once` | as by")[2].partition("\n\n")[0]
+    listed = [code for row in rows.splitlines() if row.startswith("| `") for code in codes(row.split("|")[1])]
+    yield "docs/FORMATS.md: the laws of judge", ", ".join(["once", *listed]), wanted
+    subjects = (ROOT / "scripts/explain.sh").read_text().partition("\nlaw_subject() {\n")[2].partition("\n}\n")[0]
+    yield "scripts/explain.sh: the laws with a subject", ", ".join(re.findall(r"^ +([a-z_]+)\) echo ", subjects, re.M)), wanted
+
+
 # ---- all
 
 
@@ -288,6 +310,7 @@ def checks(program):
     yield from stops()
     yield from deadlocks()
     yield from lists()
+    yield from laws()
     yield from forms()
     yield from found()
     for page in [ROOT / "README.md", *sorted((ROOT / "docs").glob("*.md"))]:

@@ -58,6 +58,13 @@ def words(name, call, says):
     return Case(name, f"./pct {call}", 5, "refused words\n", [says, USAGE], {"a.pct": SMALLEST})
 
 
+def findings(*broken):
+    """The lines of `judge`: these, and of each other law that it is kept."""
+    lines = {line.split()[0]: line for line in broken}
+    laws = "once ran_all after_end process slot join cond call_once requests keys leftover".split()
+    return "".join(f"{lines.get(law, f'{law} kept')}\n" for law in laws)
+
+
 SCRIPTS = [
     script(
         "a typographic dash", "not_ascii", 2, "fn main x\n    emit \u20131\nend\n", "    emit \\xE2\\x80\\x931\n",
@@ -255,6 +262,14 @@ SCHEDULES = [
     ),
 ]
 
+# A report of a thread that acts on no request and pops no handler.
+MISTAKEN = "report 1\n1.1 ending canceled\n1.1 pop h 1 run\nverdict open\nschedule 1 100 4 64\nend 0\n"
+TWO_MISTAKES = "once event 2 1.1 pop h 1 run", "requests event 1 1.1 ending canceled"
+TWO_EXPLAINED = [
+    "report:3: the law of cleanup handlers and destructors fails at this event\n    1.1 pop h 1 run\n  Law: the newest open handler is removed first",
+    "report:2: the law of cancellation requests fails at this event\n    1.1 ending canceled\n  Law: a thread is canceled only by a request",
+]
+
 CALLS = [
     Case(
         "a file that is not there", "./pct run nowhere.pct", 66, "",
@@ -350,6 +365,13 @@ CALLS = [
     Case("a report after rules in one file", "{ cat rules; echo '%%'; ./pct run a.pct | sed 2s/0/x/; } > both; ./pct expect both", 13, "refused report 2 bad_event\n", ["both:4: bad_event\n    1.1 exit x\n"], {"a.pct": SMALLEST, "rules": "never * emit *\n"}),
     Case("rules without a report", "./pct expect rules", 13, "refused report 1 bad_header\n", ["rules has no line %%, so all of it is rules and the report is empty: './pct expect RULES REPORT'"], {"rules": "never * emit *\n"}),
     Case("rules and a report that is missing", "./pct expect rules report", 66, "", ["report is no file that can be read"], {"rules": "never * emit *\n"}),
+    Case("a judgement of a report", "./pct run a.pct > report; ./pct judge report", 0, findings(), [], {"a.pct": SMALLEST}),
+    Case("a judgement of a report with two mistakes", "./pct judge report", 12, findings(*TWO_MISTAKES), TWO_EXPLAINED, {"report": MISTAKEN}),
+    Case("a judgement of standard input", "./pct judge < report", 12, findings(*TWO_MISTAKES), [], {"report": MISTAKEN}),
+    Case("a judgement of a schedule", "./pct judge begun", 13, "refused report 1 bad_header\n", ["begun:1: bad_header\n    schedule 1", "Mend: give a report of 'run'"], {"begun": BEGUN}),
+    Case("a judgement of a report that is missing", "./pct judge report", 66, "", ["report is no file that can be read"]),
+    words("a judgement of two reports", "judge a.pct later", "later: a word too many for judge\n"),
+    words("a judgement with an option", "judge --slots 4 a.pct", "--slots: judge has no options\n"),
     Case("sample without a number", "./pct sample a.pct", 5, "refused words\n", [USAGE, "pct sample K"], {"a.pct": SMALLEST}),
     Case("a command in upper case", "./pct RUN a.pct", 5, "refused words\n", [USAGE], {"a.pct": SMALLEST}),
     Case("build with a word more", "./pct build now", 5, "refused words\n", [USAGE]),

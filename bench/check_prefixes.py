@@ -137,7 +137,7 @@ def refused(name, call, *lines, **files):
 
 
 SELECT = "SELECT: --threads P.T,P.T or --events"
-NAMES = "usage: " + ", ".join(f"pct {name}" for name in "run replay trace choices states lanes picture continue sample tally sum expect audit survey test check points demo build".split())
+NAMES = "usage: " + ", ".join(f"pct {name}" for name in "run replay trace choices states lanes picture continue sample tally sum expect audit judge survey test check points demo build".split())
 LONG_FORM = " [SELECT]... [FILE [PREFIX [STEPS]]]"
 WORDS = [
     refused("an option of run", "trace a.pct --seed 3", "--seed is no option of trace; it has --threads and --events", "usage: pct trace" + LONG_FORM, SELECT),

@@ -12,7 +12,7 @@ def make(folder, program):
     for name in ("pct", "crates.txt"):
         shutil.copy(ROOT / name, folder)
     (folder / "docs").mkdir()
-    for name in ("reasons.txt", "forms.txt"):
+    for name in ("reasons.txt", "forms.txt", "THEOREM.md"):
         shutil.copy(ROOT / "docs" / name, folder / "docs")
     for name in ("examples", "scripts"):
         shutil.copytree(ROOT / name, folder / name)

@@ -1,6 +1,6 @@
 """Seven laws of the events of a report: each is a function over the list of the events, oldest first, and gives the place of each event
 that it refuses, and why. They are written from the sentences of the standard, and share no code with the definitions of the same names
-in crates/pct_laws/specs.
+in crates/pct_laws/specs. Some are put together of parts, of which judged.py takes those that are laws of `judge`.
 """
 
 
@@ -11,28 +11,28 @@ def is_own(event, pid, tid):
     return event.pid == pid and event.tid == tid
 
 
-def the_fork(events, pid, end):
-    """The place of the newest event before one that makes a process."""
+def the_fork(events, pid, end, tid=None):
+    """The place of the newest event before one that makes a process, if a number is given by a thread of this number."""
     for place in range(end - 1, -1, -1):
-        if events[place].word == "fork" and events[place].number(1) == pid and events[place].pid != pid:
+        event = events[place]
+        if event.word == "fork" and event.number(1) == pid and event.pid != pid and tid in (None, event.tid):
             return place
     return None
 
 
 def history(events, pid, tid, end):
-    """The events of a thread before a place; for the replica that a fork made, after those of the thread that forked."""
-    fork = the_fork(events, pid, end)
-    inherited = []
-    if fork is not None and events[fork].tid == tid:
-        inherited = history(events, events[fork].pid, tid, fork)
-    return inherited + [event for event in events[:end] if is_own(event, pid, tid)]
+    """The events of a thread before a place; for the replica that a fork made, those since the fork, after those of the thread that
+    forked."""
+    fork = the_fork(events, pid, end, tid)
+    inherited = history(events, events[fork].pid, tid, fork) if fork is not None else []
+    return inherited + [event for event in events[fork or 0:end] if is_own(event, pid, tid)]
 
 
 def process_history(events, pid, end):
-    """The events of a process before a place, after those of its parent before the fork that made it."""
+    """The events of a process before a place, since the fork that made it, after those of its parent before that."""
     fork = the_fork(events, pid, end)
     inherited = process_history(events, events[fork].pid, fork) if fork is not None else []
-    return inherited + [event for event in events[:end] if event.pid == pid]
+    return inherited + [event for event in events[fork or 0:end] if event.pid == pid]
 
 
 def had(events, pid, tid, end, *words):
@@ -72,9 +72,9 @@ def ran_all(events):
     for place, event in enumerate(events):
         if event.word != "ended":
             continue
-        own = [at for at, other in enumerate(events) if is_own(other, event.pid, event.tid)]
+        own = [at for at, other in enumerate(events[:place]) if is_own(other, event.pid, event.tid)]
         begins = [at for at in own if events[at].word == "ending"]
-        if not begins or begins[0] > place:
+        if not begins:
             yield place, "a thread that ended did not begin to end"
             continue
         opened = open_handlers(history(events, event.pid, event.tid, begins[0]))
@@ -101,7 +101,7 @@ def others_alive(events, pid, end, ended):
     return any((pid, tid) not in ended for tid in known)
 
 
-def after_end(events):
+def follows_end(events):
     """XSH pthread_exit, exit: a thread that has ended does nothing more, but that the last one of a process exits it with 0. A
     thread that exits its process calls neither handlers nor destructors, and no more than its exit functions do, which are
     plain by a choice of this host."""
@@ -121,13 +121,29 @@ def after_end(events):
             yield place, "a thread that has ended exits its process, and another one has not ended"
         if event.word == "ended":
             ended.add(thread)
-            following = events[place + 1] if place + 1 < len(events) else None
-            goes_on = following is not None and is_own(following, *thread) and following.words == ("exit", "0")
-            if not goes_on and not others_alive(events, event.pid, place + 1, ended):
-                yield place, "the last thread of a process ends, and does not exit it"
         if event.word == "exit":
             exits.add(thread)
         newest[thread] = event.word
+
+
+def last_exits(events):
+    """XSH pthread_exit: the last thread of a process that ends exits it with 0. That this is in the step of its end is a choice of this
+    host."""
+    ended = set()
+    for place, event in enumerate(events):
+        if event.word != "ended":
+            continue
+        ended.add((event.pid, event.tid))
+        following = events[place + 1] if place + 1 < len(events) else None
+        goes_on = following is not None and is_own(following, event.pid, event.tid) and following.words == ("exit", "0")
+        if not goes_on and not others_alive(events, event.pid, place + 1, ended):
+            yield place, "the last thread of a process ends, and does not exit it"
+
+
+def after_end(events):
+    """XSH pthread_exit, exit: what follows the end of a thread, and that the last one exits its process."""
+    yield from follows_end(events)
+    yield from last_exits(events)
 
 
 def calls(events):
@@ -144,20 +160,37 @@ def calls(events):
             yield place, "a destructor is called with 0"
 
 
-def ends(events):
-    """XSH pthread_exit, 2.9.5.3, pthread_key_create: a thread ends when its handlers were called, and then its destructors.
-    Values with destructors that are left are counted as it ends."""
+def ends_without_handlers(events):
+    """XSH pthread_exit, 2.9.5.3: a thread ends when its handlers were called."""
     for place, event in enumerate(events):
         if event.word == "ended" and open_handlers(history(events, event.pid, event.tid, place)):
             yield place, "a thread ends with a handler"
-        if event.word == "leftover":
-            following = events[place + 1] if place + 1 < len(events) else None
-            if event.words[1] == "0":
-                yield place, "0 values are left"
-            if following is None or not is_own(following, event.pid, event.tid) or following.word != "ended":
-                yield place, "values are left, and the thread does not end"
-            if not any(is_own(other, event.pid, event.tid) and other.word == "pass" for other in events[:place]):
-                yield place, "values are left without a pass"
+
+
+def leaves_after_passes(events):
+    """XSH pthread_key_create: values with destructors are left only after the passes over them."""
+    for place, event in enumerate(events):
+        if event.word == "leftover" and event.words[1] == "0":
+            yield place, "0 values are left"
+        if event.word == "leftover" and not had(events, event.pid, event.tid, place, "pass"):
+            yield place, "values are left without a pass"
+
+
+def ends_with_leftovers(events):
+    """XSH pthread_key_create: values with destructors that are left are counted as the thread ends."""
+    for place, event in enumerate(events):
+        following = events[place + 1] if place + 1 < len(events) else None
+        goes_on = following is None or not is_own(following, event.pid, event.tid) or following.word != "ended"
+        if event.word == "leftover" and goes_on:
+            yield place, "values are left, and the thread does not end"
+
+
+def ends(events):
+    """XSH pthread_exit, 2.9.5.3, pthread_key_create: a thread ends when its handlers were called, and then its destructors.
+    Values with destructors that are left are counted as it ends."""
+    yield from ends_without_handlers(events)
+    yield from ends_with_leftovers(events)
+    yield from leaves_after_passes(events)
 
 
 def is_requested(events, pid, tid, end):
@@ -242,37 +275,59 @@ def unblocked_by(events, pid, tid, end):
             yield event.words[1]
 
 
-def cancel_law(events):
-    """XSH 2.9.5.1, 2.9.5.2, 2.9.5.3: a thread acts on a request that came, and only with cancelability enabled. With
-    cancelability enabled and a request pending, a call of a function that shall be a cancellation point acts on it. A thread
-    that has begun to end does not enable cancelability. XSH pthread_cond_wait, pthread_cond_signal: a wait ends with the mutex
-    that it released, and a signal unblocks a thread that waits on its condition variable."""
+def own_past(events, place):
+    """The words of the earlier events of the thread of an event, oldest first."""
+    return [other.words for other in events[:place] if is_own(other, events[place].pid, events[place].tid)]
+
+
+def leaves_points(events):
+    """XSH 2.9.5.2, pthread_cond_wait: a thread returns from a cancellation point that it called, and a wait ends with the mutex that it
+    released."""
     for place, event in enumerate(events):
-        past = [other.words for other in events[:place] if is_own(other, event.pid, event.tid)]
-        if not returns(event, past):
+        if not returns(event, own_past(events, place)):
             yield place, "a thread returns from a point that it did not call, or leaves a wait that it is not in"
+
+
+def keeps_signals(events):
+    """XSH pthread_cond_signal: a signal unblocks a thread that waits on its condition variable, before its time expires."""
+    for place, event in enumerate(events):
         if event.word == "cancel_wait" and any(cond != event.words[1] for cond in unblocked_by(events, event.pid, event.tid, place)):
             yield place, "a thread leaves the wait on another condition variable than that whose signal unblocked it"
         if event.word == "expire" and any(unblocked_by(events, event.pid, event.tid, place)):
             yield place, "the time of a wait expires after a signal unblocked the thread"
+
+
+def acts(events):
+    """XSH 2.9.5.1, 2.9.5.2, 2.9.5.3: a thread acts on a request that came, and only with cancelability enabled. With cancelability
+    enabled and a request pending, a call of a function that shall be a cancellation point acts on it. A thread that has begun to
+    end does not enable cancelability."""
+    for place, event in enumerate(events):
         if event.words == ("state", "enable") and had(events, event.pid, event.tid, place, "ending", "exit"):
             yield place, "a thread that has begun to end, or to exit its process, enables cancelability"
-        acts = event.words[:2] == ("ending", "canceled") or event.word == "cancel_wait"
+        is_act = event.words[:2] == ("ending", "canceled") or event.word == "cancel_wait"
         # A call of waitpid for no child returns in its step, and makes no event `call`.
         no_child = event.words[:2] == ("answer", "waitpid")
         point = event.word == "call" or event.words == ("done", "pthread_testcancel")
-        if not acts and not point and not no_child:
+        if not is_act and not point and not no_child:
             continue
         requested = is_requested(events, event.pid, event.tid, place)
         enabled = is_enabled(events, event.pid, event.tid, place)
-        if acts and not requested:
+        if is_act and not requested:
             yield place, "a thread is canceled without a request"
-        if acts and not enabled:
+        if is_act and not enabled:
             yield place, "a thread is canceled with cancelability disabled, or after it began to end or to exit"
         if point and requested and enabled:
             yield place, "a thread calls a cancellation point with a request pending, and does not act on it"
-        if no_child and requested and enabled and past[-1:] != [("call", "waitpid")]:
+        if no_child and requested and enabled and own_past(events, place)[-1:] != [("call", "waitpid")]:
             yield place, "waitpid is called with a request pending, and returns"
+
+
+def cancel_law(events):
+    """XSH 2.9.5.1, 2.9.5.2, 2.9.5.3, pthread_cond_wait, pthread_cond_signal: requests and what acts on them, and returns from cancellation
+    points."""
+    yield from leaves_points(events)
+    yield from keeps_signals(events)
+    yield from acts(events)
 
 
 def process_law(events):

@@ -158,15 +158,42 @@ explain_expectation() {
     show_reason "$kind" "$why"
 }
 
-# What the law is about that `audit` names by this word.
+# What the law is about that `audit` or `judge` names by this word.
 law_subject() {
     case $1 in
         once) echo 'cleanup handlers and destructors' ;;
+        ran_all) echo 'handlers that ran' ;;
+        after_end) echo 'what follows the end of a thread' ;;
+        process) echo 'processes' ;;
         slot) echo 'thread ids and slots' ;;
         join) echo 'joins' ;;
         cond) echo 'mutexes and condition waits' ;;
         call_once) echo 'pthread_once' ;;
+        requests) echo 'cancellation requests' ;;
+        keys) echo 'keys' ;;
+        leftover) echo 'values that are left' ;;
     esac
+}
+
+# Shows the sentence of docs/THEOREM.md on the law of this word: the last field of its row in the table of the laws that are about events
+# alone.
+show_law() {
+    word=$1 LC_ALL=C awk -F ' [|] ' '
+        $1 == "| `" ENVIRON["word"] "`" {
+            sub(/ [|]$/, "", $3)
+            gsub(/`/, "\047", $3)
+            count = split("Law: " $3 ".", words, " ")
+            text = " "
+            for (i = 1; i <= count; i++) {
+                if (length(text) + length(words[i]) >= 120) {
+                    print text
+                    text = "   "
+                }
+                text = text " " words[i]
+            }
+            print text
+        }
+    ' "$here/docs/THEOREM.md" >&2
 }
 
 # Explains what `audit` found in a report: the line of the event at which a law fails, or that of the refusal and its usual cause.
@@ -180,11 +207,35 @@ explain_audit() {
         printf '%s:%s: the law of %s fails at this event\n' "$file" "$line" "$(law_subject "$4")" >&2
         show_line "$line" script
     else
-        line=$3
-        printf '%s:%s: %s\n' "$file" "$line" "$4" >&2
-        show_line "$line" script
-        show_reason report "$4"
+        explain_report "$3" "$4"
     fi
+}
+
+# Explains the refusal of a report that is the whole input: its line and the usual cause.
+explain_report() {
+    line=$1
+    printf '%s:%s: %s\n' "$file" "$line" "$2" >&2
+    show_line "$line" script
+    show_reason report "$2"
+}
+
+# Explains what `judge` found in a report: for each law that fails the line of the first event at which it does, and the sentence of the
+# law; or the refusal.
+explain_findings() {
+    make_folder
+    repeat_answer "$@" >"$folder/findings"
+    while read -r law verb number why; do
+        case $law$verb in
+            refusedreport) explain_report "$number" "$why" ;;
+            *event)
+                # Event 1 is in line 2.
+                line=$((number + 1))
+                printf '%s:%s: the law of %s fails at this event\n' "$file" "$line" "$(law_subject "$law")" >&2
+                show_line "$line" script
+                show_law "$law"
+                ;;
+        esac
+    done <"$folder/findings"
 }
 
 # Explains the refusal of the rules of an expectation: the line, which is one of the rules' own file, and the usual cause.

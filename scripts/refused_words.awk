@@ -19,7 +19,7 @@ function range(option, low, high) {
 function on_command(command) {
     if (ARGC < 2) return "a command is missing"
     if (command == "run") return on_run()
-    if (command ~ /^(replay|check|expect|audit|points|build)$/) return on_plain(command)
+    if (command ~ /^(replay|check|expect|audit|judge|points|build)$/) return on_plain(command)
     if (command == "demo") return on_number("demo", 2, "0", "4294967295")
     if (command == "sample") return on_number("sample", 2, "1", "10000")
     if (command == "tally") return on_tally()
@@ -28,7 +28,7 @@ function on_command(command) {
     if (command == "continue") return on_continue()
     if (command ~ /^(trace|choices|states|lanes|picture)$/) return on_view(command)
     if (command ~ /^--(version|help)$/) return too_many(command, 1)
-    if (tolower(command) ~ /^(run|replay|check|expect|audit|points|build|demo|sample|continue|trace|choices|states|lanes|picture|tally|sum|survey|test)$/) return command ": commands are in lower case"
+    if (tolower(command) ~ /^(run|replay|check|expect|audit|judge|points|build|demo|sample|continue|trace|choices|states|lanes|picture|tally|sum|survey|test)$/) return command ": commands are in lower case"
     return command ": no such command"
 }
 

@@ -4,9 +4,7 @@ use Rattle.std.specs.Prelude.{find}
 use Rattle.std.proofs.lemmas.Bool.{cases_lt}
 use Rattle.std.proofs.lemmas.List.{take_more, reverse-append}
 use Rattle.pct_model.specs.declared.event.Event.{Event}
-use Rattle.pct_laws.specs.Once as Once
 use Rattle.pct_audit.specs.declared.law.Law.{Law}
-use Rattle.pct_audit.specs.declared.law.Law.TheVariants as law
 use Rattle.pct_audit.specs.AuditOf.{judged_laws, allows, keeps, first_broken, first_broken_by, first_events}
 
 found_by : (kept allowed : Bool) (law : Law) (rest with_event with_past : Option Law) → cond (not kept) (Some law) rest ≡ None → (rest ≡ None → with_past ≡ with_event)
@@ -27,14 +25,6 @@ broken_told passes slots e events none = found_told passes slots e events judged
 
 pub first_more : (events : List Event) (i : ℕ) (d : Event) → i < length events → first_events (i + 1) events ≡ get_or events i d ∷ first_events i events
 first_more events i d within = ap reverse (take_more events i d within) ∙ reverse-append (take i events) (get_or events i d ∷ [])
-
--- an event that breaks none of the laws is allowed by the first one
-pub once_allowed : (passes slots : ℕ) (e : Event) (events : List Event) → first_broken_by passes slots e events ≡ None → Once.allows passes e events ≡ true
-once_allowed passes slots e events none = by_first (Once.allows passes e events) _ none
-  where
-    by_first : (allowed : Bool) (rest : Option Law) → cond (not allowed) (Some law.Once) rest ≡ None → allowed ≡ true
-    by_first true rest none = refl
-    by_first false rest none = absurd cc
 
 -- what holds of the numbers up to one, and of the next one, holds of the numbers up to that
 pub kept_up_to : (P : ℕ → Type 0) (i : ℕ) → ((k : ℕ) → k ≤ i → P k) → P (i + 1) → (k : ℕ) → k ≤ i + 1 → P k

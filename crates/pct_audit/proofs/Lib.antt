@@ -1,6 +1,6 @@
 mod SameTests
-mod PairKeys
-mod StackFacts
+pub mod PairKeys
+pub mod StackFacts
 mod KnownIds
 mod SlotTold
 mod CleanupTold

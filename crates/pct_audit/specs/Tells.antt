@@ -32,3 +32,11 @@ pub record Tells (j : Judge) (events : List Event) : Type 0 where
   -- the threads that hold their slots
   pub some_slots : 0 < j.slots
   pub holders : (pid slot tid : ℕ) → holds j.holders pid slot tid ≡ (is_live pid tid events && nat_eq (slot_of j.slots tid) slot)
+
+-- the stacks of handlers, by their numbers
+abbrev pub handler_stacks : Judge → List (List (ℕ × ℕ))
+handler_stacks j = j.stacks
+
+-- the number of thread slots of a process
+abbrev pub slot_count : Judge → ℕ
+slot_count j = j.slots

@@ -3,7 +3,7 @@
 ghost use Rattle.std.specs.Prelude.{◌≡◌, ◌<◌, ◌^◌, IfOk, List, None, length};
 ghost use Rattle.pct_model.specs.declared.event.Event.{Event as AnEvent};
 ghost use Rattle.pct_audit.specs.AuditOf.{IsAuditOf, first_broken_by};
-ghost use Rattle.pct_audit.specs.Tells.{Tells};
+ghost use Rattle.pct_audit.specs.Tells.{Tells, slot_count};
 
 use crate::judge::Judge;
 use crate::law::{AuditFault, Law};
@@ -14,7 +14,7 @@ use std::alloc::Global;
 // The first law, in the order of the laws, that an event breaks.
 fn broken_by(judge: &Judge, passes: u32, event: Event) -> Option<Law>
     requires told { (events : List AnEvent) × Tells judge.now events }
-    ensures { (events : List AnEvent) → Tells judge.now events → result ≡ first_broken_by passes judge.now.slots event events }
+    ensures { (events : List AnEvent) → Tells judge.now events → result ≡ first_broken_by passes (slot_count judge.now) event events }
 {
     if !judge.allows_once(passes, event) {
         Some(Law::Once)

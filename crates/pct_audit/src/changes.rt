@@ -1,11 +1,10 @@
 //! What an event changes in the rows.
 
-ghost use Rattle.std.specs.Prelude.{◌≡◌, ℕ, ◌<◌, true, if◌then◌else◌, ◌&&◌, length, false, OnOk, IfOk, nat_eq};
+ghost use Rattle.std.specs.Prelude.{◌≡◌, ℕ, suc, ◌<◌, if◌then◌else◌, ◌&&◌, length, false, OnOk, IfOk, nat_eq};
 ghost use Rattle.std.specs.Option.{option_map_or};
 ghost use Rattle.pct_model.specs.ThreadCalls.{join_point};
 ghost use Rattle.pct_laws.specs.KnownThreads.{makes_process};
 ghost use Rattle.pct_laws.specs.NewestEvents.{reports_call};
-ghost use Rattle.pct_laws.specs.Once.{may_come};
 ghost use Rattle.pct_laws.specs.ThreadSummary.{ThreadSummary, with_event};
 ghost use Rattle.pct_laws.specs.WaitStages.{stage_after, stage_at_call};
 ghost use Rattle.pct_audit.specs.IsRow.{IsRow, Grows, KeepsMarks, IsOwnChange, names, marked, copied};
@@ -33,7 +32,7 @@ fn own_row(stacks: &mut Stacks, row: Row, what: What) -> Result<Row, NoMemory>
     requires left { row.left < length stacks.old }
     ensures stacks { OnOk result (Grows stacks.old stacks.new) }
     ensures marks { IfOk result (λ next. KeepsMarks what row next) }
-    ensures row { IfOk result (λ next. (passes : ℕ) (s : ThreadSummary) → IsRow stacks.old row s → may_come passes what s ≡ true → IsRow stacks.new next (with_event what s)) }
+    ensures row { IfOk result (λ next. (s : ThreadSummary) → IsRow stacks.old row s → IsRow stacks.new next (with_event what s)) }
 {
     match what {
         What::Pushed(f, a) => {
@@ -72,12 +71,19 @@ fn own_row(stacks: &mut Stacks, row: Row, what: What) -> Result<Row, NoMemory>
             ended: Some(value),
             ..row
         }),
-        What::PassBegun(number) => Ok(Row {
-            passes: number,
+        What::PassBegun(_) => Ok(Row {
+            passes: one_more(row.passes)?,
             ..row
         }),
         _ => Ok(row),
     }
+}
+
+// The number of passes after one more. There is no memory for 2 ^ 32 events.
+fn one_more(passes: u32) -> Result<u32, NoMemory>
+    ensures { IfOk result (λ next. next ≡ suc passes) }
+{
+    passes.checked_add(1).ok_or(NoMemory)
 }
 
 // The stage of a condition wait after an event of its thread.
@@ -151,7 +157,7 @@ pub fn next_row(stacks: &mut Stacks, row: Row, what: What) -> Result<Row, NoMemo
     requires left { row.left < length stacks.old }
     ensures stacks { OnOk result (Grows stacks.old stacks.new) }
     ensures marks { IfOk result (λ next. IsOwnChange what row next) }
-    ensures row { IfOk result (λ next. (passes : ℕ) (s : ThreadSummary) → IsRow stacks.old row s → may_come passes what s ≡ true → IsRow stacks.new next (with_event what s)) }
+    ensures row { IfOk result (λ next. (s : ThreadSummary) → IsRow stacks.old row s → IsRow stacks.new next (with_event what s)) }
 {
     let next = own_row(stacks, row, what)?;
     let joining = calls_join(what);

@@ -1,6 +1,6 @@
 //! The judge of events.
 
-ghost use Rattle.std.specs.Prelude.{◌≡◌, ℕ, ◌<◌, Bool, true, List, [], ◌∷◌, IfOk, OnOk};
+ghost use Rattle.std.specs.Prelude.{◌≡◌, ℕ, ◌<◌, Bool, List, [], ◌∷◌, length, IfOk, OnOk};
 ghost use Rattle.pct_model.specs.declared.event.Event.{Event};
 ghost use Rattle.pct_model.specs.declared.event.What.TheVariants as what;
 ghost use Rattle.pct_laws.specs.CondLaw as CondLaw;
@@ -9,6 +9,7 @@ ghost use Rattle.pct_laws.specs.Once as Once;
 ghost use Rattle.pct_laws.specs.OnceLaw as OnceLaw;
 ghost use Rattle.pct_laws.specs.SlotLaw as SlotLaw;
 ghost use Rattle.pct_laws.specs.ThreadSummary.{summary_of};
+ghost use Rattle.pct_laws.specs.WaitStages.{wait_stage};
 ghost use Rattle.pct_audit.specs.CleanupTests.{snapshot_of};
 
 use crate::changes::{mark, next_row, replicate};
@@ -23,6 +24,7 @@ use crate::snapshot::Snapshot;
 use crate::stacks::Stacks;
 use pct_holders::Holders;
 use pct_io::NoMemory;
+use pct_laws::WaitStage;
 use pct_model::{Event, What};
 use pct_process_maps::ProcessMaps;
 use std::alloc::Global;
@@ -42,12 +44,14 @@ pub struct Judge {
 
 impl Judge {
     ghost use Rattle.pct_audit.specs.DestroyedKeys.{is_destroyed};
-    ghost use Rattle.pct_audit.specs.Tells.{Tells};
+    ghost use Rattle.pct_audit.specs.IsRow.{Grows};
+    ghost use Rattle.pct_audit.specs.Stacks.{stack_at};
+    ghost use Rattle.pct_audit.specs.Tells.{Tells, handler_stacks, slot_count};
 
     /// Before the first event.
     pub fn new(alloc: Global, slots: u32) -> Result<Judge, NoMemory>
         requires { 0 < slots }
-        ensures { IfOk result (λ judge. Tells judge [] × (judge.slots ≡ slots)) }
+        ensures { IfOk result (λ judge. Tells judge [] × (slot_count judge ≡ slots)) }
     {
         let mut holders = Holders::new(alloc);
         holders.set(1, 0, 1, true)?;
@@ -63,11 +67,12 @@ impl Judge {
         })
     }
 
-    /// After one more event, which the law of cleanup handlers allows.
+    /// After one more event, whatever it is.
     pub fn add(&mut self, event: Event) -> Result<(), NoMemory>
         requires told { (events : List Event) × Tells self.old events }
-        ensures slots { OnOk result (self.new.slots ≡ self.old.slots) }
-        ensures told { OnOk result ((passes : ℕ) (events : List Event) → Tells self.old events → Once.allows passes event events ≡ true → Tells self.new (event ∷ events)) }
+        ensures slots { OnOk result (slot_count self.new ≡ slot_count self.old) }
+        ensures stacks { OnOk result (Grows (handler_stacks self.old) (handler_stacks self.new)) }
+        ensures told { OnOk result ((events : List Event) → Tells self.old events → Tells self.new (event ∷ events)) }
     {
         mark(&mut self.rows, event.pid, event.what)?;
         let caller = self.rows.at(event.pid, event.tid);
@@ -97,6 +102,29 @@ impl Judge {
         )?;
         self.last = Some(event);
         Ok(())
+    }
+
+    /// How far the newest condition wait of a thread is.
+    pub fn stage(&self, pid: u32, tid: u32) -> WaitStage
+        ensures { (events : List Event) → Tells self.now events → result ≡ wait_stage pid tid events }
+    {
+        self.rows.at(pid, tid).stage
+    }
+
+    /// The number of the stack of the open handlers of a thread.
+    pub fn handlers(&self, pid: u32, tid: u32) -> usize
+        requires told { (events : List Event) × Tells self.now events }
+        ensures number { result < length (handler_stacks self.now) }
+        ensures stack { (events : List Event) → Tells self.now events → stack_at (handler_stacks self.now) result ≡ (summary_of pid tid events).handlers }
+    {
+        self.rows.at(pid, tid).handlers
+    }
+
+    /// The stacks of handlers.
+    pub fn stacks(&self) -> &Stacks
+        ensures { result.now ≡ handler_stacks self.now }
+    {
+        &self.stacks
     }
 
     // What the law of cleanup handlers reads of a thread.
@@ -137,8 +165,8 @@ impl Judge {
 
     // Whether a new thread may get an id.
     fn is_open(&self, pid: u32, id: u32) -> bool
-        requires { 0 < self.now.slots }
-        ensures { (detached : Bool) (events : List Event) → Tells self.now events → result ≡ SlotLaw.may_create self.now.slots (what.Created id detached) pid events }
+        requires { 0 < slot_count self.now }
+        ensures { (detached : Bool) (events : List Event) → Tells self.now events → result ≡ SlotLaw.may_create (slot_count self.now) (what.Created id detached) pid events }
     {
         let row = self.rows.at(pid, id);
         !row.known && self.holders.is_free(pid, slot_of(self.slots, id))
@@ -146,8 +174,8 @@ impl Judge {
 
     /// Whether the law of thread ids and slots allows an event.
     pub fn allows_slot(&self, event: Event) -> bool
-        requires { 0 < self.now.slots }
-        ensures { (events : List Event) → Tells self.now events → result ≡ SlotLaw.allows self.now.slots event events }
+        requires { 0 < slot_count self.now }
+        ensures { (events : List Event) → Tells self.now events → result ≡ SlotLaw.allows (slot_count self.now) event events }
     {
         match event.what {
             What::Created { id, .. } => self.is_open(event.pid, id),

@@ -16,4 +16,6 @@ mod snapshot;
 mod stacks;
 
 pub use auditor::audit;
+pub use judge::Judge;
 pub use law::{AuditFault, Law};
+pub use stacks::Stacks;

@@ -10,7 +10,7 @@ use Rattle.pct_model.specs.ThreadCalls.{join_point}
 use Rattle.pct_laws.specs.AfterEnd as AfterEnd
 use Rattle.pct_laws.specs.CondLaw as CondLaw
 use Rattle.pct_laws.specs.Ends.{is_leftover}
-use Rattle.pct_laws.specs.FollowedEvents.{follows}
+use Rattle.pct_laws.specs.FollowedEvents.{are_followed, follows, newest_passes}
 use Rattle.pct_laws.specs.JoinLaw as JoinLaw
 use Rattle.pct_laws.specs.KeysLaw as KeysLaw
 use Rattle.pct_laws.specs.KnownIds.{known_ids}
@@ -97,6 +97,14 @@ module _ (n : Naming) where
   followed-same : (e : Event) (es : List Event) → follows is_leftover reports_end (renamed_event n e) (renamed_events n es) ≡ follows is_leftover reports_end e es
   followed-same e [] = refl
   followed-same e (x ∷ es) = rw (leftover-same n x.what, reports_end-same n e.what) refl
+
+  newest_leftover-same : (es : List Event) → newest_passes is_leftover (renamed_events n es) ≡ newest_passes is_leftover es
+  newest_leftover-same [] = refl
+  newest_leftover-same (x ∷ es) = leftover-same n x.what
+
+  all_followed-same : (es : List Event) → are_followed is_leftover reports_end (renamed_events n es) ≡ are_followed is_leftover reports_end es
+  all_followed-same es =
+      ap₂ (λ (followed newest : Bool). followed && not newest) (each-same (follows is_leftover reports_end) followed-same es) (newest_leftover-same es)
 
   -- ---- keys
 
@@ -249,7 +257,7 @@ changes_no_law passes slots n apart = record {
   once = once-exact n apart.functions passes;
   ran_all = ran_all-exact n apart.functions;
   after_end = each-same n AfterEnd.allows (follow_end-same n);
-  leftovers = each-same n (follows is_leftover reports_end) (followed-same n);
+  leftovers = all_followed-same n;
   keys = each-same n KeysLaw.allows (λ e earlier. destroy-same n e.what e.pid earlier);
   requests = each-same n RequestsLaw.allows (λ e earlier. act-same n apart e.what e.pid e.tid earlier);
   joins = each-same n JoinLaw.allows (λ e earlier. name-same n e.what e.pid e.tid earlier);

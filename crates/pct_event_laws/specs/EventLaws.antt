@@ -1,5 +1,5 @@
--- The laws of runs that are about events alone. Each is a test of an event against those before it, so a list that keeps it keeps it as far
--- as any of its events.
+-- The laws of runs that are about events alone. Each but that of leftovers is a test of an event against those before it, so a list that
+-- keeps it keeps it as far as any of its events.
 use Rattle.std.specs.Prelude.{◌≡◌, ℕ, true, List}
 use Rattle.pct_model.specs.declared.event.Event.{Event}
 use Rattle.pct_model.specs.declared.schedule.Config.{Config}
@@ -10,7 +10,7 @@ use Rattle.pct_laws.specs.AfterEnd as AfterEnd
 use Rattle.pct_laws.specs.CondLaw as CondLaw
 use Rattle.pct_laws.specs.Each.{each}
 use Rattle.pct_laws.specs.Ends.{is_leftover}
-use Rattle.pct_laws.specs.FollowedEvents.{follows}
+use Rattle.pct_laws.specs.FollowedEvents.{are_followed}
 use Rattle.pct_laws.specs.JoinLaw as JoinLaw
 use Rattle.pct_laws.specs.KeysLaw as KeysLaw
 use Rattle.pct_laws.specs.KnownThreads.{reports_end}
@@ -29,8 +29,8 @@ pub record EventLaws (passes slots : ℕ) (events : List Event) : Type 0 where
   pub ran_all : each RanAll.allows events ≡ true
   -- what follows the end of a thread
   pub after_end : each AfterEnd.allows events ≡ true
-  -- the event after one that values are left is the end of its thread
-  pub leftovers : each (follows is_leftover reports_end) events ≡ true
+  -- each event that values are left is directly followed by the end of its thread
+  pub leftovers : are_followed is_leftover reports_end events ≡ true
   -- keys of destructors
   pub keys : each KeysLaw.allows events ≡ true
   -- requests, and what acts on them

@@ -8,7 +8,7 @@ use Rattle.pct_laws.specs.AfterEnd as AfterEnd
 use Rattle.pct_laws.specs.CondLaw as CondLaw
 use Rattle.pct_laws.specs.Each.{each}
 use Rattle.pct_laws.specs.Ends.{is_leftover}
-use Rattle.pct_laws.specs.FollowedEvents.{follows}
+use Rattle.pct_laws.specs.FollowedEvents.{are_followed}
 use Rattle.pct_laws.specs.JoinLaw as JoinLaw
 use Rattle.pct_laws.specs.KeysLaw as KeysLaw
 use Rattle.pct_laws.specs.KnownThreads.{reports_end}
@@ -87,7 +87,7 @@ pub record ChangesNoLaw (passes slots : ℕ) (n : Naming) : Type 0 where
   pub once : IsKeptBy n (Once.allows passes)
   pub ran_all : IsKeptBy n RanAll.allows
   pub after_end : IsKeptBy n AfterEnd.allows
-  pub leftovers : IsKeptBy n (follows is_leftover reports_end)
+  pub leftovers : (events : List Event) → are_followed is_leftover reports_end (renamed_events n events) ≡ are_followed is_leftover reports_end events
   pub keys : IsKeptBy n KeysLaw.allows
   pub requests : IsKeptBy n RequestsLaw.allows
   pub joins : IsKeptBy n JoinLaw.allows

@@ -43,6 +43,7 @@ pub fn read_events(alloc: Global, text: &[u8]) -> Result<EventReport, ReportFaul
     ensures config { IfOk result (λ report. is_config report.config ≡ true) }
     ensures ids { IfOk result (λ report. All HasIds report.events) }
     ensures few { IfOk result (λ report. length report.events < 2 ^ 32) }
+    ensures within { IfOk result (λ report. All (IsWithin text.now) report.lines) }
     ensures memory { result ≡ Err OutOfMemory → IsOk (body_in (map strip_cr (lines_of text.now))) }
 {
     let report = read_report(alloc, text)?;

@@ -14,7 +14,7 @@ use Rattle.pct_tallies.specs.Seeds.{IsRange, is_range, seed_count}
 use Rattle.pct_inspection.specs.declared.words.Inspection.{Inspection}
 use Rattle.pct_inspection.specs.declared.words.Inspection.TheVariants as inspection
 use Rattle.pct_inspection.specs.declared.words.View.{View}
-use Rattle.pct_inspection.specs.Words.{allows, config_asked, continuation_asked, inspection_asked, is_tallied, seed_count as survey_seeds, seed_in, seeds_asked, sum_asked, survey_asked, tally_asked, view_asked, view_named}
+use Rattle.pct_inspection.specs.Words.{allows, asked_alone, config_asked, continuation_asked, inspection_asked, is_tallied, seed_count as survey_seeds, seed_in, seeds_asked, survey_asked, tally_asked, view_asked, view_named}
 use Rattle.pct_inspection.specs.Answer.{AsksFor}
 use Rattle.pct_inspection.specs.TallyOutcomes.{IsAccepted, IsTallied}
 use Rattle.pct_inspection.proofs.AskedSurveys.{asked_survey}
@@ -42,6 +42,7 @@ is_tally (inspection.Continue seed) = false
 is_tally (inspection.Show shown) = false
 is_tally inspection.Sum = false
 is_tally (inspection.Survey count config) = false
+is_tally inspection.Judge = false
 
 module _ (seeds : Seeds) where
   -- another command is no tally
@@ -97,19 +98,23 @@ module _ (seeds : Seeds) where
       seeds_in _ = seeds
   tally_is (first ∷ last ∷ next ∷ words) is = absurd (none-some (inspection.Tally seeds) is)
 
-  by_command : (continues tallies sums surveys : Bool) (words : List (List ℕ)) (view : Option View)
-      → cond continues (continuation_asked words) (cond tallies (tally_asked words) (cond sums (sum_asked words) (cond surveys (survey_asked words) (option_and_then (view_asked words) view)))) ≡ Some (inspection.Tally seeds) → AreAsked seeds
-  by_command true tallies sums surveys words view is = absurd (not_continued words is)
-  by_command false true sums surveys words view is = tally_is words is
-  by_command false false true surveys words view is = absurd (no_tally (is_empty words) inspection.Sum refl is)
-  by_command false false false true words view is = absurd (not_surveyed words is)
-  by_command false false false false words view is = absurd (not_shown words view is)
+  by_command : (continues tallies sums surveys judges : Bool) (words : List (List ℕ)) (view : Option View)
+      → cond continues (continuation_asked words) (cond tallies (tally_asked words) (cond sums (asked_alone words inspection.Sum) (cond surveys (survey_asked words) (cond judges (asked_alone words inspection.Judge) (option_and_then (view_asked words) view))))) ≡ Some (inspection.Tally seeds)
+      → AreAsked seeds
+  by_command true tallies sums surveys judges words view is = absurd (not_continued words is)
+  by_command false true sums surveys judges words view is = tally_is words is
+  by_command false false true surveys judges words view is = absurd (no_tally (is_empty words) inspection.Sum refl is)
+  by_command false false false true judges words view is = absurd (not_surveyed words is)
+  by_command false false false false true words view is = absurd (no_tally (is_empty words) inspection.Judge refl is)
+  by_command false false false false false words view is = absurd (not_shown words view is)
 
 -- the seeds that words ask a tally for
 pub asked_seeds : (words : List (List ℕ)) (seeds : Seeds) → AsksFor words (inspection.Tally seeds) → AreAsked seeds
 unfolding inspection_asked
 asked_seeds [] seeds is = absurd (none-some (inspection.Tally seeds) is)
-asked_seeds (command ∷ words) seeds is = by_command seeds (bytes_eq command (codes "continue")) (bytes_eq command (codes "tally")) (bytes_eq command (codes "sum")) (bytes_eq command (codes "survey")) words (view_named command) is
+asked_seeds (command ∷ words) seeds is =
+    by_command seeds (bytes_eq command (codes "continue")) (bytes_eq command (codes "tally")) (bytes_eq command (codes "sum")) (bytes_eq command (codes "survey"))
+    (bytes_eq command (codes "judge")) words (view_named command) is
 
 -- what words ask for is accepted
 pub is_accepted_asked : (words : List (List ℕ)) (asked : Inspection) → AsksFor words asked → IsAccepted asked
@@ -118,3 +123,4 @@ is_accepted_asked words (inspection.Continue seed) is = tt
 is_accepted_asked words (inspection.Show shown) is = tt
 is_accepted_asked words inspection.Sum is = tt
 is_accepted_asked words (inspection.Survey seeds config) is = asked_survey words seeds config is
+is_accepted_asked words inspection.Judge is = tt

@@ -13,7 +13,7 @@ use Rattle.pct_options.proofs.Configs.{run_is_within}
 use Rattle.pct_inspection.specs.declared.words.Inspection.{Inspection}
 use Rattle.pct_inspection.specs.declared.words.Inspection.TheVariants as inspection
 use Rattle.pct_inspection.specs.declared.words.View.{View}
-use Rattle.pct_inspection.specs.Words.{allows, config_asked, continuation_asked, has_leading_zero, inspection_asked, is_of_one_run, seed_count, seeds_asked, sum_asked, survey_asked, tally_asked, view_asked, view_named}
+use Rattle.pct_inspection.specs.Words.{allows, asked_alone, config_asked, continuation_asked, has_leading_zero, inspection_asked, is_of_one_run, seed_count, seeds_asked, survey_asked, tally_asked, view_asked, view_named}
 use Rattle.pct_inspection.specs.Answer.{AsksFor}
 use Rattle.pct_inspection.specs.SurveyOutcomes.{IsSurveyed}
 
@@ -47,6 +47,7 @@ is_survey (inspection.Continue seed) = false
 is_survey (inspection.Show shown) = false
 is_survey (inspection.Tally seeds) = false
 is_survey inspection.Sum = false
+is_survey inspection.Judge = false
 
 -- the number of seeds and the configuration of a survey
 abbrev parts_of : ℕ × Config → Inspection → ℕ × Config
@@ -87,18 +88,20 @@ module _ (seeds : ℕ) (config : Config) where
       let parts = ap (parts_of (n, c)) (same_Some (inspection.Survey n c) (inspection.Survey seeds config) same) in
       subst (λ (p : ℕ × Config). IsSurveyed p.0 p.1) parts (count_fits count n n_is, config_fits options c c_is)))
 
-  by_command : (continues tallies sums surveys : Bool) (words : List (List ℕ)) (view : Option View)
-      → cond continues (continuation_asked words) (cond tallies (tally_asked words) (cond sums (sum_asked words) (cond surveys (survey_asked words) (option_and_then (view_asked words) view)))) ≡ Some (inspection.Survey seeds config)
-      → IsSurveyed seeds config
-  by_command true tallies sums surveys words view is = absurd (not_continued words is)
-  by_command false true sums surveys words view is = absurd (not_tallied words is)
-  by_command false false true surveys words view is = absurd (no_survey (is_empty words) inspection.Sum refl is)
-  by_command false false false true words view is = survey_is words is
-  by_command false false false false words view is = absurd (not_shown words view is)
+  by_command : (continues tallies sums surveys judges : Bool) (words : List (List ℕ)) (view : Option View)
+      → cond continues (continuation_asked words) (cond tallies (tally_asked words) (cond sums (asked_alone words inspection.Sum) (cond surveys (survey_asked words) (cond judges (asked_alone words inspection.Judge) (option_and_then (view_asked words) view)))))
+      ≡ Some (inspection.Survey seeds config) → IsSurveyed seeds config
+  by_command true tallies sums surveys judges words view is = absurd (not_continued words is)
+  by_command false true sums surveys judges words view is = absurd (not_tallied words is)
+  by_command false false true surveys judges words view is = absurd (no_survey (is_empty words) inspection.Sum refl is)
+  by_command false false false true judges words view is = survey_is words is
+  by_command false false false false true words view is = absurd (no_survey (is_empty words) inspection.Judge refl is)
+  by_command false false false false false words view is = absurd (not_shown words view is)
 
 -- it is within the limits
 pub asked_survey : (words : List (List ℕ)) (seeds : ℕ) (config : Config) → AsksFor words (inspection.Survey seeds config) → IsSurveyed seeds config
 unfolding inspection_asked
 asked_survey [] seeds config is = absurd (none-some (inspection.Survey seeds config) is)
 asked_survey (command ∷ words) seeds config is =
-    by_command seeds config (bytes_eq command (codes "continue")) (bytes_eq command (codes "tally")) (bytes_eq command (codes "sum")) (bytes_eq command (codes "survey")) words (view_named command) is
+    by_command seeds config (bytes_eq command (codes "continue")) (bytes_eq command (codes "tally")) (bytes_eq command (codes "sum")) (bytes_eq command (codes "survey"))
+    (bytes_eq command (codes "judge")) words (view_named command) is

@@ -4,6 +4,9 @@ use Rattle.pct_names.proofs.Names.{Option, ParseWhy, refl, Run, same_Some, Scrip
 use Rattle.std.proofs.lemmas.Bool.{true≢false}
 use Rattle.pct_model.specs.declared.stop.Verdict.TheVariants as verdict
 use Rattle.pct_expect.specs.declared.rule.Rule.{Rule}
+use Rattle.pct_expect.specs.declared.span.Span.{Span}
+use Rattle.pct_report_reader.specs.Reading.{report_in}
+use Rattle.pct_event_judge.specs.Findings.{are_kept}
 use Rattle.pct_expect.specs.Reading.{expects_in}
 use Rattle.pct_grammar.proofs.Scripts.{spells_one_script}
 use Rattle.pct_survey.specs.Surveys.{has_failure}
@@ -27,8 +30,10 @@ use Rattle.pct_inspection.specs.Inputs.{expectation_in, script_in}
 use Rattle.pct_inspection.specs.Inspection.{prefix_for, code_by, code_after, follows_prefix, script_asked, Continues, FollowsPrefix, IsAcceptedCode, IsCodeOfRun, IsInspected, IsValidPrefix, IsWhole}
 use Rattle.pct_inspection.specs.Inspection as outcome
 use Rattle.pct_inspection.specs.Answer.{AnswersRead, AsksFor, code_of_answer, status_of_answer, text_of_answer}
-use Rattle.pct_inspection.proofs.Inputs.{follows_accepted, follows_script, is_accepted, kind, same_kind}
-use Rattle.pct_inspection.proofs.Totals.{ok_or_err, sum_or_refusal}
+use Rattle.pct_inspection.proofs.Inputs.{follows_accepted, follows_script}
+use Rattle.pct_inspection.specs.TallyOutcomes.{Tallies, Totalled}
+use Rattle.pct_inspection.proofs.OneInspection.{AsRead, Faulty, is_told, none_of, none_unscripted, OfReport, OfSum, OfSurvey, Told, told_of, Unread, Whole}
+use Rattle.pct_inspection.proofs.Totals.{ok_or_err, totals_in_are_one}
 
 -- ---- an input that is not refused
 
@@ -111,80 +116,52 @@ code_of_run words input code text follows valid (outcome.SumRefused refuses) = a
 code_of_run words input code text follows valid (outcome.Summed sums) = absurd (true≢false (sym follows ∙ ap follows_prefix sums.asked))
 code_of_run words input code text follows valid (outcome.ExpectationRefused refuses) = absurd (true≢false (sym follows ∙ ap follows_prefix refuses.asked))
 code_of_run words input code text follows valid (outcome.Surveyed surveys) = absurd (true≢false (sym follows ∙ ap follows_prefix surveys.asked))
+code_of_run words input code text follows valid (outcome.ReportRefused refuses) = absurd (true≢false (sym follows ∙ ap follows_prefix refuses.asked))
+code_of_run words input code text follows valid (outcome.Judged judges) = absurd (true≢false (sym follows ∙ ap follows_prefix judges.asked))
 
--- ---- the code of a tally
+-- ---- the codes of words that do not ask to follow a prefix
 
-module _ (words : List (List ℕ)) (input : List ℕ) (fits : length input ≤ 16777216) where
-  -- words that ask for no run have no outcome of one
-  not_of_run : (asked other : Inspection) (code : ℕ) → AsksFor words asked → AsksFor words other → 1 < kind asked → kind other ≡ 1 → code ≡ 0
-  not_of_run asked other code is also above one = let same = same_kind words asked other is also in absurd (omega (arith, above, one, same))
+failed_code : (failed : Bool) (code : ℕ) → code ≡ cond failed 14 0 → (code ≡ 0) ⊎ (code ≡ 14)
+failed_code true code is = inr is
+failed_code false code is = inl is
 
-  not_followed : (asked : Inspection) (code : ℕ) → AsksFor words asked → follows_prefix (Some asked) ≡ false → follows_prefix (inspection_asked words) ≡ true → code ≡ 0
-  not_followed asked code is no_prefix follows = absurd (true≢false (sym follows ∙ ap follows_prefix is ∙ no_prefix))
+kept_code : (kept : Bool) (code : ℕ) → code ≡ cond kept 0 12 → (code ≡ 0) ⊎ (code ≡ 12)
+kept_code true code is = inl is
+kept_code false code is = inr is
 
-  tally_code : (seeds : Seeds) (script : Script) → AsksFor words (inspection.Tally seeds) → Spells input script → (code : ℕ) (text : List ℕ) → IsInspected words input code text → code ≡ 0
-  tally_code seeds script asked spelled code text (outcome.WordsRefused refuses) = absurd (true≢false (sym (is_accepted words (inspection.Tally seeds) asked) ∙ refuses.refused))
-  tally_code seeds script asked spelled code text (outcome.InputRefused refuses) = absurd (omega (arith, fits, refuses.too_long))
-  tally_code seeds script asked spelled code text (outcome.ScriptRefused refuses) =
-      absurd (no_fault (inspection_asked words) input refuses.part script input refuses.line refuses.why (ap (λ (o : Option Inspection). script_asked o input) asked) spelled refuses.asked refuses.first)
-  tally_code seeds script asked spelled code text (outcome.PrefixRefused refuses) = not_followed (inspection.Tally seeds) code asked refl refuses.accepted
-  tally_code seeds script asked spelled code text (outcome.Continued goes_on) = not_of_run (inspection.Tally seeds) (inspection.Continue goes_on.seed) code asked goes_on.asked (omega arith) refl
-  tally_code seeds script asked spelled code text (outcome.Traced traces) = not_of_run (inspection.Tally seeds) (inspection.Show (view.Steps form.Trace)) code asked traces.asked (omega arith) refl
-  tally_code seeds script asked spelled code text (outcome.Listed lists) = not_of_run (inspection.Tally seeds) (inspection.Show view.Choices) code asked lists.asked (omega arith) refl
-  tally_code seeds script asked spelled code text (outcome.Valued lists) = not_of_run (inspection.Tally seeds) (inspection.Show view.States) code asked lists.asked (omega arith) refl
-  tally_code seeds script asked spelled code text (outcome.Drawn draws) = not_of_run (inspection.Tally seeds) (inspection.Show (view.Steps draws.shown)) code asked draws.asked (omega arith) refl
-  tally_code seeds script asked spelled code text (outcome.Tallied tallies) = tallies.code_is
-  tally_code seeds script asked spelled code text (outcome.TalliesRefused refuses) = let same = same_kind words (inspection.Tally seeds) inspection.Sum asked refuses.asked in absurd (omega (arith, same))
-  tally_code seeds script asked spelled code text (outcome.SumRefused refuses) = let same = same_kind words (inspection.Tally seeds) inspection.Sum asked refuses.asked in absurd (omega (arith, same))
-  tally_code seeds script asked spelled code text (outcome.Summed sums) = sums.code_is
-  tally_code seeds script asked spelled code text (outcome.ExpectationRefused refuses) = let same = same_kind words (inspection.Tally seeds) (inspection.Survey refuses.seeds refuses.config) asked refuses.asked in absurd (omega (arith, same))
-  tally_code seeds script asked spelled code text (outcome.Surveyed surveys) = let same = same_kind words (inspection.Tally seeds) (inspection.Survey surveys.seeds surveys.config) asked surveys.asked in absurd (omega (arith, same))
+module _ (words : List (List ℕ)) (input : List ℕ) (fits : length input ≤ 16777216) (code : ℕ) (text : List ℕ) where
+  -- what is told of a script, and of an input that has none
+  told_of_script : (asked : Inspection) (part : List ℕ) (script : Script) → AsksFor words asked → follows_prefix (Some asked) ≡ false → script_asked (Some asked) input ≡ Some part → Spells part script → IsInspected words input code text → Told words input asked code text
+  told_of_script asked part script is prefix of_part spelled =
+      is_told words input asked is prefix (none_of words input part script (ap (λ (o : Option Inspection). script_asked o input) is ∙ of_part) fits spelled) code text
 
-  sum_code : (tallies : List PlacedTally) (total : RangeTally) → AsksFor words inspection.Sum → tallies_in input ≡ Ok tallies → IsTotalOf tallies (Ok total) → (code : ℕ) (text : List ℕ) → IsInspected words input code text → code ≡ 0
-  sum_code tallies total asked read summed code text (outcome.WordsRefused refuses) = absurd (true≢false (sym (is_accepted words inspection.Sum asked) ∙ refuses.refused))
-  sum_code tallies total asked read summed code text (outcome.InputRefused refuses) = absurd (omega (arith, fits, refuses.too_long))
-  sum_code tallies total asked read summed code text (outcome.ScriptRefused refuses) = absurd (none-some refuses.part (sym (ap (λ (o : Option Inspection). script_asked o input) asked) ∙ refuses.asked))
-  sum_code tallies total asked read summed code text (outcome.PrefixRefused refuses) = not_followed inspection.Sum code asked refl refuses.accepted
-  sum_code tallies total asked read summed code text (outcome.Continued goes_on) = not_of_run inspection.Sum (inspection.Continue goes_on.seed) code asked goes_on.asked (omega arith) refl
-  sum_code tallies total asked read summed code text (outcome.Traced traces) = not_of_run inspection.Sum (inspection.Show (view.Steps form.Trace)) code asked traces.asked (omega arith) refl
-  sum_code tallies total asked read summed code text (outcome.Listed lists) = not_of_run inspection.Sum (inspection.Show view.Choices) code asked lists.asked (omega arith) refl
-  sum_code tallies total asked read summed code text (outcome.Valued lists) = not_of_run inspection.Sum (inspection.Show view.States) code asked lists.asked (omega arith) refl
-  sum_code tallies total asked read summed code text (outcome.Drawn draws) = not_of_run inspection.Sum (inspection.Show (view.Steps draws.shown)) code asked draws.asked (omega arith) refl
-  sum_code tallies total asked read summed code text (outcome.Tallied counted) = counted.code_is
-  sum_code tallies total asked read summed code text (outcome.TalliesRefused refuses) =
-      absurd (ok_or_err (tallies_in input) tallies (refuses.line, refuses.why) read refuses.read)
-  sum_code tallies total asked read summed code text (outcome.SumRefused refuses) =
-      absurd (sum_or_refusal input tallies refuses.tallies total (refuses.line, refuses.why) read summed refuses.read refuses.refused)
-  sum_code tallies total asked read summed code text (outcome.Summed sums) = sums.code_is
-  sum_code tallies total asked read summed code text (outcome.ExpectationRefused refuses) = let same = same_kind words inspection.Sum (inspection.Survey refuses.seeds refuses.config) asked refuses.asked in absurd (omega (arith, same))
-  sum_code tallies total asked read summed code text (outcome.Surveyed surveys) = let same = same_kind words inspection.Sum (inspection.Survey surveys.seeds surveys.config) asked surveys.asked in absurd (omega (arith, same))
+  told_unscripted : (asked : Inspection) → AsksFor words asked → follows_prefix (Some asked) ≡ false → script_asked (Some asked) input ≡ None → IsInspected words input code text → Told words input asked code text
+  told_unscripted asked is prefix unscripted = is_told words input asked is prefix (none_unscripted words input asked is unscripted fits) code text
 
-  -- words that ask for a survey have no outcome of another kind
-  not_surveyed : (seeds : ℕ) (config : Config) (other : Inspection) {P : Type 0} → AsksFor words (inspection.Survey seeds config) → AsksFor words other → kind other < 4 → P
-  not_surveyed seeds config other asked also below = let same = same_kind words (inspection.Survey seeds config) other asked also in absurd (omega (arith, same, below))
+  tally_code : (seeds : Seeds) (script : Script) → AsksFor words (inspection.Tally seeds) → Spells input script → IsInspected words input code text → code ≡ 0
+  tally_code seeds script asked spelled inspected =
+      let tallies : Tallies words input code text = told_of_script (inspection.Tally seeds) input script asked refl refl spelled inspected in tallies.code_is
 
-  code_by_test : (failed : Bool) (code : ℕ) → code ≡ cond failed 14 0 → (code ≡ 0) ⊎ (code ≡ 14)
-  code_by_test true code is = inr is
-  code_by_test false code is = inl is
+  sum_code : (tallies : List PlacedTally) (total : RangeTally) → AsksFor words inspection.Sum → tallies_in input ≡ Ok tallies → IsTotalOf tallies (Ok total) → IsInspected words input code text → code ≡ 0
+  sum_code tallies total asked read summed inspected =
+      let sum : OfSum input code text = told_unscripted inspection.Sum asked refl refl inspected in
+      let same : sum.total ≡ Ok total = totals_in_are_one input sum.total (Ok total) sum.is_total (Totalled tallies read summed) in
+      ap (λ (p : ℕ × List ℕ). p.0) (sym sum.told ∙ ap told_of same)
 
   survey_code : (seeds : ℕ) (config : Config) (script : Script) (rules : List Rule) → AsksFor words (inspection.Survey seeds config) → Spells (script_in input) script → expects_in (expectation_in input) ≡ Ok rules
-      → (code : ℕ) (text : List ℕ) → IsInspected words input code text → (code ≡ 0) ⊎ (code ≡ 14)
-  survey_code seeds config script rules asked spelled read code text (outcome.WordsRefused refuses) = absurd (true≢false (sym (is_accepted words (inspection.Survey seeds config) asked) ∙ refuses.refused))
-  survey_code seeds config script rules asked spelled read code text (outcome.InputRefused refuses) = absurd (omega (arith, fits, refuses.too_long))
-  survey_code seeds config script rules asked spelled read code text (outcome.ScriptRefused refuses) =
-      absurd (no_fault (inspection_asked words) input refuses.part script (script_in input) refuses.line refuses.why (ap (λ (o : Option Inspection). script_asked o input) asked) spelled refuses.asked refuses.first)
-  survey_code seeds config script rules asked spelled read code text (outcome.PrefixRefused refuses) = absurd (true≢false (sym refuses.accepted ∙ ap follows_prefix asked))
-  survey_code seeds config script rules asked spelled read code text (outcome.Continued goes_on) = not_surveyed seeds config (inspection.Continue goes_on.seed) asked goes_on.asked (omega arith)
-  survey_code seeds config script rules asked spelled read code text (outcome.Traced traces) = not_surveyed seeds config (inspection.Show (view.Steps form.Trace)) asked traces.asked (omega arith)
-  survey_code seeds config script rules asked spelled read code text (outcome.Listed lists) = not_surveyed seeds config (inspection.Show view.Choices) asked lists.asked (omega arith)
-  survey_code seeds config script rules asked spelled read code text (outcome.Valued lists) = not_surveyed seeds config (inspection.Show view.States) asked lists.asked (omega arith)
-  survey_code seeds config script rules asked spelled read code text (outcome.Drawn draws) = not_surveyed seeds config (inspection.Show (view.Steps draws.shown)) asked draws.asked (omega arith)
-  survey_code seeds config script rules asked spelled read code text (outcome.Tallied tallies) = inl tallies.code_is
-  survey_code seeds config script rules asked spelled read code text (outcome.TalliesRefused refuses) = not_surveyed seeds config inspection.Sum asked refuses.asked (omega arith)
-  survey_code seeds config script rules asked spelled read code text (outcome.SumRefused refuses) = not_surveyed seeds config inspection.Sum asked refuses.asked (omega arith)
-  survey_code seeds config script rules asked spelled read code text (outcome.Summed sums) = inl sums.code_is
-  survey_code seeds config script rules asked spelled read code text (outcome.ExpectationRefused refuses) = absurd (ok_or_err (expects_in (expectation_in input)) rules (refuses.line, refuses.why) read refuses.first)
-  survey_code seeds config script rules asked spelled read code text (outcome.Surveyed surveys) = code_by_test (has_failure surveys.survey) code surveys.code_is
+      → IsInspected words input code text → (code ≡ 0) ⊎ (code ≡ 14)
+  survey_code seeds config script rules asked spelled read inspected = by_survey (told_of_script (inspection.Survey seeds config) (script_in input) script asked refl refl spelled inspected)
+    where
+      by_survey : OfSurvey words input code text → (code ≡ 0) ⊎ (code ≡ 14)
+      by_survey (Faulty refuses) = absurd (ok_or_err (expects_in (expectation_in input)) rules (refuses.line, refuses.why) read refuses.first)
+      by_survey (Whole surveys) = failed_code (has_failure surveys.survey) code surveys.code_is
+
+  judge_code : (config : Config) (lines : List Span) → AsksFor words inspection.Judge → report_in input ≡ Ok (config, lines) → IsInspected words input code text → (code ≡ 0) ⊎ (code ≡ 12)
+  judge_code config lines asked read inspected = by_report (told_unscripted inspection.Judge asked refl refl inspected)
+    where
+      by_report : OfReport words input code text → (code ≡ 0) ⊎ (code ≡ 12)
+      by_report (Unread refuses) = absurd (ok_or_err (report_in input) (config, lines) (refuses.line, refuses.why) read refuses.first)
+      by_report (AsRead judges) = kept_code (are_kept judges.found) code judges.code_is
 
 -- ---- all that a source had left
 
@@ -194,8 +171,9 @@ complete words before after a read wrote = λ input has no_read_fault no_write_f
     let answer = read.of_all input has in
     let accepted : IsAcceptedCode words input (code_of_answer a) = record {
       run = λ follows valid. code_of_run words input _ _ follows valid answer;
-      tally = λ seeds script asked fits spelled. tally_code words input fits seeds script asked spelled _ _ answer;
-      sum = λ tallies total asked fits read summed. sum_code words input fits tallies total asked read summed _ _ answer;
-      survey = λ seeds config script rules asked fits spelled read. survey_code words input fits seeds config script rules asked spelled read _ _ answer;
+      tally = λ seeds script asked fits spelled. tally_code words input fits _ _ seeds script asked spelled answer;
+      sum = λ tallies total asked fits read summed. sum_code words input fits _ _ tallies total asked read summed answer;
+      survey = λ seeds config script rules asked fits spelled read. survey_code words input fits _ _ seeds config script rules asked spelled read answer;
+      judge = λ config lines asked fits read. judge_code words input fits _ _ config lines asked read answer;
     } in
     inr (record { text = text_of_answer a; answer = answer; wrote = wrote }, accepted)

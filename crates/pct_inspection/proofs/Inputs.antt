@@ -16,13 +16,14 @@ is_accepted words what asked = ap is_some asked
 
 -- ---- what the words ask for
 
--- what is asked for: 1 for what follows a prefix, 2 for a tally, 3 for a sum, 4 for a survey
+-- what is asked for: 1 for what follows a prefix, 2 for a tally, 3 for a sum, 4 for a survey, 5 for a judgement
 abbrev pub kind : Inspection → ℕ
 kind (inspection.Continue seed) = 1
 kind (inspection.Show shown) = 1
 kind (inspection.Tally seeds) = 2
 kind inspection.Sum = 3
 kind (inspection.Survey seeds config) = 4
+kind inspection.Judge = 5
 
 -- words ask for one thing
 pub same_kind : (words : List (List ℕ)) (one other : Inspection) → AsksFor words one → AsksFor words other → kind one ≡ kind other
@@ -39,6 +40,7 @@ follows_script (Some (inspection.Show shown)) input follows = refl
 follows_script (Some (inspection.Tally seeds)) input follows = absurd (true≢false (sym follows))
 follows_script (Some inspection.Sum) input follows = absurd (true≢false (sym follows))
 follows_script (Some (inspection.Survey seeds config)) input follows = absurd (true≢false (sym follows))
+follows_script (Some inspection.Judge) input follows = absurd (true≢false (sym follows))
 follows_script None input follows = absurd (true≢false (sym follows))
 
 -- words that ask for something of a script are accepted
@@ -69,11 +71,13 @@ script_part (inspection.Show shown) input parts of_script same = ap (λ (p : ℕ
 script_part (inspection.Tally seeds) input parts of_script same = ap Some (sym (take-length input)) ∙ ap (λ (p : ℕ × ℕ). Some (take p.0 input)) (sym same)
 script_part inspection.Sum input parts of_script same = absurd of_script
 script_part (inspection.Survey seeds config) input parts of_script same = ap (λ (p : ℕ × ℕ). Some (take p.0 input)) (sym same)
+script_part inspection.Judge input parts of_script same = absurd of_script
 
--- what is asked for is of a script, unless it is a sum
-pub of_script : (asked : Inspection) → asked ≢ inspection.Sum → IsOfScript asked
-of_script (inspection.Continue seed) no_sum = tt
-of_script (inspection.Show shown) no_sum = tt
-of_script (inspection.Tally seeds) no_sum = tt
-of_script inspection.Sum no_sum = no_sum refl
-of_script (inspection.Survey seeds config) no_sum = tt
+-- what is asked for is of a script, unless it is a sum or a judgement
+pub of_script : (asked : Inspection) → asked ≢ inspection.Sum → asked ≢ inspection.Judge → IsOfScript asked
+of_script (inspection.Continue seed) no_sum no_judgement = tt
+of_script (inspection.Show shown) no_sum no_judgement = tt
+of_script (inspection.Tally seeds) no_sum no_judgement = tt
+of_script inspection.Sum no_sum no_judgement = no_sum refl
+of_script (inspection.Survey seeds config) no_sum no_judgement = tt
+of_script inspection.Judge no_sum no_judgement = no_judgement refl

@@ -4,6 +4,8 @@ mod Totals
 mod CompleteOutcomes
 mod Views
 mod Selections
+mod JudgedReports
+mod KeptReports
 mod OneInspection
 mod OptionWords
 mod AskedSurveys

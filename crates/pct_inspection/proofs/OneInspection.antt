@@ -32,10 +32,17 @@ use Rattle.pct_inspection.specs.Inspection.{prefix_for, notice, code_by, asks_to
 use Rattle.pct_inspection.specs.Inspection as outcome
 use Rattle.pct_inspection.proofs.Inputs.{follows_script, script_accepted}
 use Rattle.pct_inspection.proofs.Totals.{ok_or_err, same_err, totals_in_are_one}
+use Rattle.pct_inspection.proofs.JudgedReports.{judged_or_refused, judgements_are_one}
+use Rattle.pct_inspection.specs.JudgeOutcomes.{Judges, RefusesReport, code_of_findings}
 use Rattle.pct_inspection.specs.SurveyOutcomes.{RefusesExpectation, Surveys, code_of_survey, refused_expect}
 use Rattle.pct_expect.specs.declared.fault.ExpectWhy.{ExpectWhy}
 use Rattle.pct_expect.specs.declared.rule.Rule.{Rule}
 use Rattle.pct_expect.specs.Reading.{expects_in}
+use Rattle.pct_expect.specs.declared.span.Span.{Span}
+use Rattle.pct_report_reader.specs.declared.fault.ReportWhy.{ReportWhy}
+use Rattle.pct_report_reader.specs.Reading.{report_in}
+use Rattle.pct_judgement.specs.AnswerTexts.{refused_report}
+use Rattle.pct_report_judge.specs.FindingsTexts.{findings_text}
 use Rattle.pct_survey.proofs.OneSurvey.{surveys_are_one}
 use Rattle.pct_survey.specs.Surveys.{IsSurveyOf}
 use Rattle.pct_survey.specs.SurveyTexts.{survey_text}
@@ -93,16 +100,38 @@ record GoesOn (script : Script) (seed : ℕ) (given : Config × List Entry) (cod
   text_is : text ≡ told ++ notice (first_illegal script given.0 given.1)
 
 -- the sum of tallies, or the line of their fault
-abbrev told_of : Result RangeTally Refusal → ℕ × List ℕ
+abbrev pub told_of : Result RangeTally Refusal → ℕ × List ℕ
 told_of (Ok total) = (0, text_of (range_lines total))
 told_of (Err fault) = (16, line_text (refused_tally fault.0 fault.1))
 
+-- ---- what is told to words that do not ask to follow a prefix
+
+-- the sum of the tallies in an input, or the line of their fault
+pub record OfSum (input : List ℕ) (code : ℕ) (text : List ℕ) : Type 0 where
+  pub total : Result RangeTally Refusal
+  pub is_total : IsTotalIn input total
+  pub told : told_of total ≡ (code, text)
+
 -- the survey of an expectation, or its fault
-data OfSurvey (words : List (List ℕ)) (input : List ℕ) (code : ℕ) (text : List ℕ) : Type 0 where
+pub data OfSurvey (words : List (List ℕ)) (input : List ℕ) (code : ℕ) (text : List ℕ) : Type 0 where
   Faulty : RefusesExpectation words input code text → OfSurvey words input code text
   Whole : Surveys words input code text → OfSurvey words input code text
 
+-- what is found of a report, or its fault
+pub data OfReport (words : List (List ℕ)) (input : List ℕ) (code : ℕ) (text : List ℕ) : Type 0 where
+  Unread : RefusesReport words input code text → OfReport words input code text
+  AsRead : Judges words input code text → OfReport words input code text
+
 module _ (words : List (List ℕ)) (input : List ℕ) where
+  -- by what they ask for
+  abbrev pub Told : Inspection → ℕ → List ℕ → Type 0
+  Told (inspection.Continue seed) code text = ⊥
+  Told (inspection.Show shown) code text = ⊥
+  Told (inspection.Tally seeds) code text = Tallies words input code text
+  Told inspection.Sum code text = OfSum input code text
+  Told (inspection.Survey seeds config) code text = OfSurvey words input code text
+  Told inspection.Judge code text = OfReport words input code text
+
   -- what is shown of a script
   abbrev shown : Script → Option (ℕ × List ℕ)
   shown script = shown_of (inspection_asked words) input script (prefix_for script input)
@@ -119,9 +148,7 @@ module _ (words : List (List ℕ)) (input : List ℕ) where
     Drew : IsAnswered true → (script : Script) → Spells (script_in input) script → shown script ≡ None → drawn_of script (prefix_for script input) ≡ Some code → asks_to_draw (inspection_asked words) ≡ true → Found code text
     WentOn : IsAnswered true → (script : Script) → Spells (script_in input) script → shown script ≡ None → (seed : ℕ) → inspection_asked words ≡ Some (inspection.Continue seed)
         → (given : Config × List Entry) → prefix_for script input ≡ Ok given → GoesOn script seed given code text → Found code text
-    Counted : IsAnswered false → Tallies words input code text → Found code text
-    Judged : IsAnswered false → OfSurvey words input code text → Found code text
-    Added : IsAnswered false → inspection_asked words ≡ Some inspection.Sum → (total : Result RangeTally Refusal) → IsTotalIn input total → told_of total ≡ (code, text) → Found code text
+    Answered : IsAnswered false → (asked : Inspection) → inspection_asked words ≡ Some asked → Told asked code text → Found code text
 
   -- ---- every outcome is found
 
@@ -136,7 +163,7 @@ module _ (words : List (List ℕ)) (input : List ℕ) where
   these {c = c} {text = text} {t = t} code_is text_is = sym (ap (λ (x : ℕ). Some (x, text)) code_is ∙ ap (λ (x : List ℕ). Some (c, x)) text_is)
 
   -- no refusal of a script that is spelled
-  none_of : (part : List ℕ) (script : Script) → script_asked (inspection_asked words) input ≡ Some part → length input ≤ 16777216 → Spells part script → refused_of words input ≡ None
+  pub none_of : (part : List ℕ) (script : Script) → script_asked (inspection_asked words) input ≡ Some part → length input ≤ 16777216 → Spells part script → refused_of words input ≡ None
   none_of part script of_part fits spelled =
       checked true false None (script_accepted (inspection_asked words) input part of_part) (le-ltb 16777216 (length input) fits) (ap (option_and_then first_fault) of_part ∙ spelled_is_faultless part script spelled)
 
@@ -146,12 +173,10 @@ module _ (words : List (List ℕ)) (input : List ℕ) where
       let follows : follows_prefix (inspection_asked words) ≡ true = ap follows_prefix is ∙ prefix in
       record { none = none_of (script_in input) script (follows_script (inspection_asked words) input follows) fits spelled; asks = follows }
 
-  -- none comes before a sum
-  none_before_sum : inspection_asked words ≡ Some inspection.Sum → length input ≤ 16777216 → IsAnswered false
-  none_before_sum is fits = record {
-    none = checked true false None (ap (λ (o : Option Inspection). is_some o) is) (le-ltb 16777216 (length input) fits) (ap (λ (o : Option Inspection). fault_asked o input) is);
-    asks = ap follows_prefix is;
-  }
+  -- none comes before an answer to words that ask for nothing of a script
+  pub none_unscripted : (asked : Inspection) → inspection_asked words ≡ Some asked → script_asked (Some asked) input ≡ None → length input ≤ 16777216 → refused_of words input ≡ None
+  none_unscripted asked is unscripted fits =
+      checked true false None (ap (λ (o : Option Inspection). is_some o) is) (le-ltb 16777216 (length input) fits) (ap (λ (o : Option Inspection). fault_asked o input) is ∙ ap (option_and_then first_fault) unscripted)
 
   -- what is shown of words and a prefix that are known
   shown_as : (script : Script) (asked : Inspection) (config : Config) (entries : List Entry) (illegal : Option ℕ) (after : Option Run) → inspection_asked words ≡ Some asked → prefix_for script input ≡ Ok (config, entries)
@@ -213,17 +238,17 @@ module _ (words : List (List ℕ)) (input : List ℕ) where
           text_is = c.text_is ∙ ap (λ (n : Option ℕ). c.report_text ++ notice n) (sym c.illegal_is);
         })
 
-    -- the tally of a script
-    counted : Tallies words input code text → Found code text
-    counted t = Counted (record { none = none_of input t.script (ap (λ (o : Option Inspection). script_asked o input) t.asked) t.fits t.spelled; asks = ap follows_prefix t.asked }) t
+    -- the tally of a script, or the survey of an expectation
+    of_script : (asked : Inspection) (part : List ℕ) (script : Script) → inspection_asked words ≡ Some asked → follows_prefix (Some asked) ≡ false → script_asked (Some asked) input ≡ Some part → length input ≤ 16777216 → Spells part script → Told asked code text → Found code text
+    of_script asked part script is prefix of_part fits spelled told =
+        Answered (record { none = none_of part script (ap (λ (o : Option Inspection). script_asked o input) is ∙ of_part) fits spelled; asks = ap follows_prefix is ∙ prefix }) asked is told
 
-    -- the survey of an expectation
-    judged : (seeds : ℕ) (config : Config) (script : Script) → inspection_asked words ≡ Some (inspection.Survey seeds config) → length input ≤ 16777216 → Spells (script_in input) script → OfSurvey words input code text → Found code text
-    judged seeds config script asked fits spelled made = Judged (record { none = none_of (script_in input) script (ap (λ (o : Option Inspection). script_asked o input) asked) fits spelled; asks = ap follows_prefix asked }) made
+    -- the sum of tallies, or what is found of a report
+    unscripted : (asked : Inspection) → inspection_asked words ≡ Some asked → follows_prefix (Some asked) ≡ false → script_asked (Some asked) input ≡ None → length input ≤ 16777216 → Told asked code text → Found code text
+    unscripted asked is prefix no_script fits told = Answered (record { none = none_unscripted asked is no_script fits; asks = ap follows_prefix is ∙ prefix }) asked is told
 
-    -- the sum of tallies, or their fault
     added : inspection_asked words ≡ Some inspection.Sum → length input ≤ 16777216 → (total : Result RangeTally Refusal) → IsTotalIn input total → code ≡ (told_of total).0 → text ≡ (told_of total).1 → Found code text
-    added is fits total summed code_is text_is = Added (none_before_sum is fits) is total summed (λ i. (sym code_is i, sym text_is i))
+    added is fits total summed code_is text_is = unscripted inspection.Sum is refl refl fits (record { total = total; is_total = summed; told = λ i. (sym code_is i, sym text_is i) })
 
     found : IsInspected words input code text → Found code text
     found (outcome.WordsRefused o) = Refused (checked false (nat_lt 16777216 (length input)) (fault_asked (inspection_asked words) input) o.refused refl refl ∙ these o.code_is o.text_is)
@@ -239,12 +264,29 @@ module _ (words : List (List ℕ)) (input : List ℕ) where
     found (outcome.Listed o) = viewed view.Choices o.asked o.prefix _ o.code_is refl o.text_is
     found (outcome.Valued o) = viewed view.States o.asked o.prefix _ o.code_is refl o.text_is
     found (outcome.Drawn o) = drew o.shown o.drawn o.asked o.prefix o.code_is
-    found (outcome.Tallied o) = counted o
+    found (outcome.Tallied o) = of_script (inspection.Tally o.seeds) input o.script o.asked refl refl o.fits o.spelled o
     found (outcome.TalliesRefused o) = added o.asked o.fits (Err (o.line, o.why)) (NotRead (o.line, o.why) o.read refl) o.code_is o.text_is
     found (outcome.SumRefused o) = added o.asked o.fits (Err (o.line, o.why)) (Totalled o.tallies o.read o.refused) o.code_is o.text_is
     found (outcome.Summed o) = added o.asked o.fits (Ok o.total) (Totalled o.tallies o.read o.summed) o.code_is o.text_is
-    found (outcome.ExpectationRefused o) = judged o.seeds o.config o.script o.asked o.fits o.spelled (Faulty o)
-    found (outcome.Surveyed o) = judged o.seeds o.config o.script o.asked o.fits o.spelled (Whole o)
+    found (outcome.ExpectationRefused o) = of_script (inspection.Survey o.seeds o.config) (script_in input) o.script o.asked refl refl o.fits o.spelled (Faulty o)
+    found (outcome.Surveyed o) = of_script (inspection.Survey o.seeds o.config) (script_in input) o.script o.asked refl refl o.fits o.spelled (Whole o)
+    found (outcome.ReportRefused o) = unscripted inspection.Judge o.asked refl refl o.fits (Unread o)
+    found (outcome.Judged o) = unscripted inspection.Judge o.asked refl refl o.fits (AsRead o)
+
+  -- where nothing is refused, words that do not ask to follow a prefix are told this
+  module _ (asked : Inspection) (is : inspection_asked words ≡ Some asked) (prefix : follows_prefix (Some asked) ≡ false) (none : refused_of words input ≡ None) (code : ℕ) (text : List ℕ) where
+    no_run : IsAnswered true → ⊥
+    no_run answered = true≢false (sym answered.asks ∙ ap follows_prefix is ∙ prefix)
+
+    told_as_found : Found code text → Told asked code text
+    told_as_found (Refused a) = absurd (none-some (code, text) (sym none ∙ a))
+    told_as_found (Shown answered _ _ _) = absurd (no_run answered)
+    told_as_found (Drew answered _ _ _ _ _) = absurd (no_run answered)
+    told_as_found (WentOn answered _ _ _ _ _ _ _ _) = absurd (no_run answered)
+    told_as_found (Answered _ other same told) = subst (λ (i : Inspection). Told i code text) (same_Some other asked (sym same ∙ is)) told
+
+    pub is_told : IsInspected words input code text → Told asked code text
+    is_told inspected = told_as_found (found code text inspected)
 
 -- ---- and only one
 
@@ -318,31 +360,14 @@ module _ (words : List (List ℕ)) (input : List ℕ) (code other : ℕ) (text t
         a.text_is ∙ (λ i. text_of (range_lines (record { seeds = seeds i; subject = subject_of (script i); tally = tally i }))) ∙ sym b.text_is,
       )
 
-  -- what words ask for that ask for a survey
-  asked_of : {c : ℕ} {t : List ℕ} → OfSurvey words input c t → (n : ℕ) × (config : Config) × (inspection_asked words ≡ Some (inspection.Survey n config))
-  asked_of (Faulty a) = (a.seeds, a.config, a.asked)
-  asked_of (Whole a) = (a.seeds, a.config, a.asked)
-
-  survey_or_tally : {c d : ℕ} {t u : List ℕ} → OfSurvey words input c t → Tallies words input d u → ⊥
-  survey_or_tally a b = let is = asked_of a in no_tally_of is.0 is.1 b.seeds is.2 b.asked
-    where
-      no_tally_of : (n : ℕ) (config : Config) (seeds : Seeds) → inspection_asked words ≡ Some (inspection.Survey n config) → inspection_asked words ≡ Some (inspection.Tally seeds) → ⊥
-      no_tally_of n config seeds survey tally = absurd cc
-
-  survey_or_sum : {c : ℕ} {t : List ℕ} → OfSurvey words input c t → inspection_asked words ≡ Some inspection.Sum → ⊥
-  survey_or_sum a sum = let is = asked_of a in no_sum_of is.0 is.1 is.2
-    where
-      no_sum_of : (n : ℕ) (config : Config) → inspection_asked words ≡ Some (inspection.Survey n config) → ⊥
-      no_sum_of n config survey = absurd cc
-
   -- one script has one survey of the rules
-  judged_once : OfSurvey words input code text → OfSurvey words input other told → (code ≡ other) × (text ≡ told)
-  judged_once (Faulty a) (Faulty b) =
+  surveyed_once : OfSurvey words input code text → OfSurvey words input other told → (code ≡ other) × (text ≡ told)
+  surveyed_once (Faulty a) (Faulty b) =
       let same = same_err {X = List Rule} (expects_in (expectation_in input)) (a.line, a.why) (b.line, b.why) a.first b.first in
       (a.code_is ∙ sym b.code_is, a.text_is ∙ ap (λ (fault : ℕ × ExpectWhy). line_text (refused_expect fault.0 fault.1)) same ∙ sym b.text_is)
-  judged_once (Faulty a) (Whole b) = absurd (ok_or_err (expects_in (expectation_in input)) b.rules (a.line, a.why) b.read a.first)
-  judged_once (Whole a) (Faulty b) = absurd (ok_or_err (expects_in (expectation_in input)) a.rules (b.line, b.why) a.read b.first)
-  judged_once (Whole a) (Whole b) =
+  surveyed_once (Faulty a) (Whole b) = absurd (ok_or_err (expects_in (expectation_in input)) b.rules (a.line, a.why) b.read a.first)
+  surveyed_once (Whole a) (Faulty b) = absurd (ok_or_err (expects_in (expectation_in input)) a.rules (b.line, b.why) a.read b.first)
+  surveyed_once (Whole a) (Whole b) =
       let asked = ap (survey_parts (b.seeds, b.config)) (sym a.asked ∙ b.asked) in
       let script : a.script ≡ b.script = spells_one_script (script_in input) a.script b.script a.spelled b.spelled in
       let rules : a.rules ≡ b.rules = same_given_rules (expects_in (expectation_in input)) a.rules b.rules a.read b.read in
@@ -355,53 +380,48 @@ module _ (words : List (List ℕ)) (input : List ℕ) (code other : ℕ) (text t
         a.text_is ∙ ap survey_text survey ∙ sym b.text_is,
       )
 
-  -- words ask for a tally or for a sum
-  tally_or_sum : (seeds : Seeds) → inspection_asked words ≡ Some (inspection.Tally seeds) → inspection_asked words ≡ Some inspection.Sum → ⊥
-  tally_or_sum seeds tally sum = absurd cc
+  -- a report is refused with one fault, or has one judgement
+  reported_once : OfReport words input code text → OfReport words input other told → (code ≡ other) × (text ≡ told)
+  reported_once (Unread a) (Unread b) =
+      let same = same_err {X = Config × List Span} (report_in input) (a.line, a.why) (b.line, b.why) a.first b.first in
+      (a.code_is ∙ sym b.code_is, a.text_is ∙ ap (λ (fault : ℕ × ReportWhy). line_text (refused_report fault.0 fault.1)) same ∙ sym b.text_is)
+  reported_once (Unread a) (AsRead b) = absurd (judged_or_refused input b.found b.lines a.line a.why b.judged a.first)
+  reported_once (AsRead a) (Unread b) = absurd (judged_or_refused input a.found a.lines b.line b.why a.judged b.first)
+  reported_once (AsRead a) (AsRead b) =
+      let same = judgements_are_one input a.found b.found a.lines b.lines a.judged b.judged in (
+        a.code_is ∙ ap code_of_findings same.0 ∙ sym b.code_is,
+        a.text_is ∙ (λ i. findings_text input (same.1 i) (same.0 i)) ∙ sym b.text_is,
+      )
+
+  -- words are told one thing
+  told_once : (asked : Inspection) → Told words input asked code text → Told words input asked other told → (code ≡ other) × (text ≡ told)
+  told_once (inspection.Continue seed) a b = absurd a
+  told_once (inspection.Show shown) a b = absurd a
+  told_once (inspection.Tally seeds) a b = counted_once a b
+  told_once inspection.Sum a b =
+      let both : (code, text) ≡ (other, told) = sym a.told ∙ ap told_of (totals_in_are_one input a.total b.total a.is_total b.is_total) ∙ b.told in
+      (ap (λ (p : ℕ × List ℕ). p.0) both, ap (λ (p : ℕ × List ℕ). p.1) both)
+  told_once (inspection.Survey seeds config) a b = surveyed_once a b
+  told_once inspection.Judge a b = reported_once a b
 
   found_once : Found words input code text → Found words input other told → Same
   found_once (Refused a) (Refused b) = whole (some_pair_parts code other text told (sym a ∙ b))
   found_once (Refused a) (Shown answered _ _ _) = absurd (refused_or_not a answered)
   found_once (Refused a) (Drew answered _ _ _ _ _) = absurd (refused_or_not a answered)
   found_once (Refused a) (WentOn answered _ _ _ _ _ _ _ _) = absurd (refused_or_not a answered)
-  found_once (Refused a) (Counted answered _) = absurd (refused_or_not a answered)
-  found_once (Refused a) (Added answered _ _ _ _) = absurd (refused_or_not a answered)
-  found_once (Refused a) (Judged answered _) = absurd (refused_or_not a answered)
-  found_once (Judged answered _) (Refused b) = absurd (refused_or_not b answered)
-  found_once (Shown answered _ _ _) (Judged none _) = absurd (asks_for_both answered none)
-  found_once (Judged none _) (Shown answered _ _ _) = absurd (asks_for_both answered none)
-  found_once (Drew answered _ _ _ _ _) (Judged none _) = absurd (asks_for_both answered none)
-  found_once (Judged none _) (Drew answered _ _ _ _ _) = absurd (asks_for_both answered none)
-  found_once (WentOn answered _ _ _ _ _ _ _ _) (Judged none _) = absurd (asks_for_both answered none)
-  found_once (Judged none _) (WentOn answered _ _ _ _ _ _ _ _) = absurd (asks_for_both answered none)
-  found_once (Counted _ a) (Judged _ b) = absurd (survey_or_tally b a)
-  found_once (Judged _ a) (Counted _ b) = absurd (survey_or_tally a b)
-  found_once (Added _ sum _ _ _) (Judged _ b) = absurd (survey_or_sum b sum)
-  found_once (Judged _ a) (Added _ sum _ _ _) = absurd (survey_or_sum a sum)
-  found_once (Judged _ a) (Judged _ b) = whole (judged_once a b)
+  found_once (Refused a) (Answered answered _ _ _) = absurd (refused_or_not a answered)
   found_once (Shown answered _ _ _) (Refused b) = absurd (refused_or_not b answered)
   found_once (Drew answered _ _ _ _ _) (Refused b) = absurd (refused_or_not b answered)
   found_once (WentOn answered _ _ _ _ _ _ _ _) (Refused b) = absurd (refused_or_not b answered)
-  found_once (Counted answered _) (Refused b) = absurd (refused_or_not b answered)
-  found_once (Added answered _ _ _ _) (Refused b) = absurd (refused_or_not b answered)
-  found_once (Shown answered _ _ _) (Counted none _) = absurd (asks_for_both answered none)
-  found_once (Shown answered _ _ _) (Added none _ _ _ _) = absurd (asks_for_both answered none)
-  found_once (Drew answered _ _ _ _ _) (Counted none _) = absurd (asks_for_both answered none)
-  found_once (Drew answered _ _ _ _ _) (Added none _ _ _ _) = absurd (asks_for_both answered none)
-  found_once (WentOn answered _ _ _ _ _ _ _ _) (Counted none _) = absurd (asks_for_both answered none)
-  found_once (WentOn answered _ _ _ _ _ _ _ _) (Added none _ _ _ _) = absurd (asks_for_both answered none)
-  found_once (Counted none _) (Shown answered _ _ _) = absurd (asks_for_both answered none)
-  found_once (Added none _ _ _ _) (Shown answered _ _ _) = absurd (asks_for_both answered none)
-  found_once (Counted none _) (Drew answered _ _ _ _ _) = absurd (asks_for_both answered none)
-  found_once (Added none _ _ _ _) (Drew answered _ _ _ _ _) = absurd (asks_for_both answered none)
-  found_once (Counted none _) (WentOn answered _ _ _ _ _ _ _ _) = absurd (asks_for_both answered none)
-  found_once (Added none _ _ _ _) (WentOn answered _ _ _ _ _ _ _ _) = absurd (asks_for_both answered none)
-  found_once (Counted _ a) (Counted _ b) = whole (counted_once a b)
-  found_once (Counted _ a) (Added _ sum _ _ _) = absurd (tally_or_sum a.seeds a.asked sum)
-  found_once (Added _ sum _ _ _) (Counted _ b) = absurd (tally_or_sum b.seeds b.asked sum)
-  found_once (Added _ _ one a is) (Added _ _ also b same) =
-      let both : (code, text) ≡ (other, told) = sym is ∙ ap told_of (totals_in_are_one input one also a b) ∙ same in
-      whole (ap (λ (p : ℕ × List ℕ). p.0) both, ap (λ (p : ℕ × List ℕ). p.1) both)
+  found_once (Answered answered _ _ _) (Refused b) = absurd (refused_or_not b answered)
+  found_once (Shown answered _ _ _) (Answered none _ _ _) = absurd (asks_for_both answered none)
+  found_once (Drew answered _ _ _ _ _) (Answered none _ _ _) = absurd (asks_for_both answered none)
+  found_once (WentOn answered _ _ _ _ _ _ _ _) (Answered none _ _ _) = absurd (asks_for_both answered none)
+  found_once (Answered none _ _ _) (Shown answered _ _ _) = absurd (asks_for_both answered none)
+  found_once (Answered none _ _ _) (Drew answered _ _ _ _ _) = absurd (asks_for_both answered none)
+  found_once (Answered none _ _ _) (WentOn answered _ _ _ _ _ _ _ _) = absurd (asks_for_both answered none)
+  found_once (Answered _ asked is a) (Answered _ also same b) =
+      whole (told_once also (subst (λ (i : Inspection). Told words input i code text) (same_Some asked also (sym is ∙ same)) a) b)
   found_once (Shown _ one spells a) (Shown _ also spelled b) = whole (some_pair_parts code other text told (sym a ∙ ap (shown words input) (spells_one_script (script_in input) one also spells spelled) ∙ b))
   found_once (Shown _ one spells a) (Drew _ also spelled b _ _) = absurd (disagree one also spells spelled a b)
   found_once (Shown _ one spells a) (WentOn _ also spelled b _ _ _ _ _) = absurd (disagree one also spells spelled a b)

@@ -5,6 +5,14 @@ use Rattle.pct_names.proofs.Names.{ScheduleWhy, Script, Some, Spells, subst, sym
 use Rattle.pct_expect.specs.declared.fault.ExpectWhy.{ExpectWhy}
 use Rattle.pct_expect.specs.declared.rule.Rule.{Rule}
 use Rattle.pct_expect.specs.Reading.{expects_in}
+use Rattle.pct_expect.specs.declared.span.Span.{Span}
+use Rattle.pct_report_reader.specs.declared.fault.ReportWhy.{ReportWhy}
+use Rattle.pct_report_reader.specs.Reading.{report_in}
+use Rattle.pct_judgement.specs.AnswerTexts.{refused_report}
+use Rattle.pct_event_judge.specs.declared.findings.Findings.{Findings}
+use Rattle.pct_event_judge.specs.Findings.{are_kept}
+use Rattle.pct_report_judge.specs.FindingsTexts.{findings_text}
+use Rattle.pct_report_judge.specs.ReportFindings.{IsJudged}
 use Rattle.pct_survey.specs.declared.counting.Survey.{Survey}
 use Rattle.pct_survey.specs.Surveys.{IsSurveyOf, has_failure}
 use Rattle.pct_command.specs.declared.status.Status.TheVariants as status
@@ -31,7 +39,7 @@ use Rattle.pct_inspection.specs.Inspection.{prefix_for, code_by, follows_prefix,
 use Rattle.pct_inspection.specs.Inspection as outcome
 use Rattle.pct_inspection.specs.TallyOutcomes.{IsTotalIn, NotRead, refused_tally, subject_of, Totalled}
 use Rattle.pct_inspection.specs.SurveyOutcomes.{refused_expect}
-use Rattle.pct_inspection.specs.Answer.{code_of_answer, text_of_answer, AsksFor, AsksToContinue, HasParts, HasScript}
+use Rattle.pct_inspection.specs.Answer.{code_of_answer, status_of_findings, text_of_answer, AsksFor, AsksToContinue, HasParts, HasScript}
 use Rattle.pct_inspection.proofs.Inputs.{is_accepted}
 use Rattle.pct_inspection.proofs.Totals.{same_err}
 
@@ -182,3 +190,22 @@ expectation-answer words input expectation seeds config script line why asked ha
       code_is = refl;
       text_is = refl;
     })
+
+-- ---- reports
+
+-- the code by whether each law is kept
+code_of_kept : (kept : Bool) → code_of (status_of_findings kept) ≡ cond kept 0 12
+code_of_kept true = refl
+code_of_kept false = refl
+
+-- what is found of a report
+pub judge-answer : (words : List (List ℕ)) (input text : List ℕ) (kept : Bool) (found : Findings) (lines : List Span)
+    → AsksFor words inspection.Judge → length input ≤ 16777216 → IsJudged input found lines → kept ≡ are_kept found → text ≡ findings_text input lines found
+    → IsInspected words input (code_of (status_of_findings kept)) text
+judge-answer words input text kept found lines asked fits judged kept_is text_is =
+    outcome.Judged (record { asked = asked; fits = fits; found = found; lines = lines; judged = judged; code_is = code_of_kept kept ∙ ap (λ (b : Bool). cond b 0 12) kept_is; text_is = text_is })
+
+-- an input that is not a report
+pub report-answer : (words : List (List ℕ)) (input : List ℕ) (line : ℕ) (why : ReportWhy) → AsksFor words inspection.Judge → length input ≤ 16777216
+    → report_in input ≡ Err (line, why) → IsInspected words input 13 (line_text (refused_report line why))
+report-answer words input line why asked fits first = outcome.ReportRefused (record { asked = asked; fits = fits; line = line; why = why; first = first; code_is = refl; text_is = refl })

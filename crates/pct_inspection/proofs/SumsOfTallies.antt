@@ -58,6 +58,8 @@ module _ (words : List (List ℕ)) (input text : List ℕ) (seeds : Seeds) (aske
   tallied (outcome.Summed o) = absurd (not_asked inspection.Sum o.asked (λ e. absurd (omega (arith, e))))
   tallied (outcome.ExpectationRefused o) = absurd (omega (arith, o.code_is))
   tallied (outcome.Surveyed o) = absurd (not_asked (inspection.Survey o.seeds o.config) o.asked (λ e. absurd (omega (arith, e))))
+  tallied (outcome.ReportRefused o) = absurd (omega (arith, o.code_is))
+  tallied (outcome.Judged o) = absurd (not_asked inspection.Judge o.asked (λ e. absurd (omega (arith, e))))
 
 -- the tally of a script under the seeds of a range
 abbrev range_of : Script → Seeds → Tally → RangeTally

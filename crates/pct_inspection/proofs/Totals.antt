@@ -39,12 +39,6 @@ totals_in_are_one text one other (Totalled tallies read total) (Totalled others 
     let same : tallies ≡ others = same_ok (tallies_in text) tallies others read also in
     totals_are_one others one other (subst (λ (ts : List PlacedTally). IsTotalOf ts one) same total) sum
 
--- tallies with a sum have no fault
-pub sum_or_refusal : (text : List ℕ) (tallies others : List PlacedTally) (total : RangeTally) (fault : Fault)
-    → tallies_in text ≡ Ok tallies → IsTotalOf tallies (Ok total) → tallies_in text ≡ Ok others → IsTotalOf others (Err fault) → ⊥
-sum_or_refusal text tallies others total fault read summed also refused =
-    ok_or_err (Ok total) total fault refl (totals_in_are_one text (Ok total) (Err fault) (Totalled tallies read summed) (Totalled others also refused))
-
 -- ---- what the code gives of a text
 
 -- a text that is not read has no sum

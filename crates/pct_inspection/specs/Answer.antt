@@ -1,5 +1,5 @@
 -- Answers: their statuses and their texts, and what the functions below `inspect` promise of them.
-use Rattle.std.specs.Prelude.{◌≡◌, ℕ, ◌≤◌, if◌then◌else◌, List, ◌++◌, length, Option, Some, None, Result, IfOk, IsErrOf}
+use Rattle.std.specs.Prelude.{◌≡◌, ℕ, ◌≤◌, Bool, if◌then◌else◌, List, ◌++◌, length, Option, Some, None, Result, IfOk, IsErrOf}
 use Rattle.std.specs.Io.KnownBytes.{Consumes}
 use Rattle.pct_io.specs.ErrorCounts.{Rose}
 use Rattle.pct_model.specs.declared.limits.TheConstants.{MAX_INPUT}
@@ -21,6 +21,7 @@ use Rattle.pct_inspection.specs.declared.words.Inspection.TheVariants as inspect
 use Rattle.pct_inspection.specs.Words.{inspection_asked, is_inspection}
 use Rattle.pct_inspection.specs.Inputs.{script_in, prefix_in}
 use Rattle.pct_inspection.specs.Inspection.{notice, IsInspected}
+use Rattle.pct_judgement.specs.AnswerTexts.{refused_report}
 use Rattle.pct_survey.specs.declared.counting.Survey.{Survey}
 use Rattle.pct_survey.specs.Surveys.{has_failure}
 use Rattle.pct_survey.specs.SurveyTexts.{survey_text}
@@ -38,6 +39,10 @@ status_by (Some entry_number) s = status.ScheduleRefused
 abbrev pub status_of_survey : Survey → Status
 status_of_survey survey = if has_failure survey then status.ExpectFailed else status.Complete
 
+-- the status of a report that is judged: whether each law is kept
+abbrev pub status_of_findings : Bool → Status
+status_of_findings kept = if kept then status.Complete else status.AuditFailed
+
 -- the status of an answer
 abbrev pub status_of_answer : Answer → Status
 status_of_answer (answer.Refused why) = status_of_refusal why
@@ -47,12 +52,14 @@ status_of_answer (answer.Tallied range) = status.Complete
 status_of_answer (answer.TallyRefused line why) = status.TallyRefused
 status_of_answer (answer.Surveyed survey) = status_of_survey survey
 status_of_answer (answer.ExpectRefused line why) = status.ExpectRefused
+status_of_answer (answer.Judged text kept) = status_of_findings kept
+status_of_answer (answer.ReportRefused line why) = status.ReportRefused
 
 -- the code of an answer
 abbrev pub code_of_answer : Answer → ℕ
 code_of_answer a = code_of (status_of_answer a)
 
--- the text of an answer: the line of a refusal, the report of a run and the notice after it, a view, a tally, or a survey
+-- the text of an answer: the line of a refusal, the report of a run and the notice after it, a view, a tally, a survey, or what is found of a report
 abbrev pub text_of_answer : Answer → List ℕ
 text_of_answer (answer.Refused why) = line_text (line_of_refusal why)
 text_of_answer (answer.Continued engine illegal) = text_of_run engine ++ notice illegal
@@ -61,6 +68,8 @@ text_of_answer (answer.Tallied range) = text_of (range_lines range)
 text_of_answer (answer.TallyRefused line why) = line_text (refused_tally line why)
 text_of_answer (answer.Surveyed survey) = survey_text survey
 text_of_answer (answer.ExpectRefused line why) = line_text (refused_expect line why)
+text_of_answer (answer.Judged text kept) = text.items
+text_of_answer (answer.ReportRefused line why) = line_text (refused_report line why)
 
 -- ---- the answer to a text
 

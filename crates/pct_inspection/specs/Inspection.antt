@@ -19,7 +19,9 @@ use Rattle.pct_model.specs.Run.{Run, run, first_illegal, verdict_of}
 use Rattle.pct_model.specs.Outcome.{code_of_verdict, refused_words, refused_input, refused_script, refused_schedule}
 use Rattle.pct_model.specs.Report.{report}
 use Rattle.pct_expect.specs.declared.rule.Rule.{Rule}
+use Rattle.pct_expect.specs.declared.span.Span.{Span}
 use Rattle.pct_expect.specs.Reading.{expects_in}
+use Rattle.pct_report_reader.specs.Reading.{report_in}
 use Rattle.pct_laws.specs.Kept.{Kept}
 use Rattle.pct_laws.specs.Laws.{Laws}
 use Rattle.pct_schedule.specs.Prefix.{prefix_of}
@@ -46,6 +48,7 @@ use Rattle.pct_tallies.specs.declared.seeds.Seeds.{Seeds}
 use Rattle.pct_tallies.specs.Readings.{tallies_in}
 use Rattle.pct_tallies.specs.Totals.{IsTotalOf}
 use Rattle.pct_inspection.specs.Inputs.{expectation_in, prefix_in, script_in}
+use Rattle.pct_inspection.specs.JudgeOutcomes.{Judges, RefusesReport}
 use Rattle.pct_inspection.specs.SurveyOutcomes.{RefusesExpectation, Surveys}
 use Rattle.pct_inspection.specs.TallyOutcomes.{RefusesSum, RefusesTallies, Sums, Tallies}
 use Rattle.pct_inspection.specs.Words.{inspection_asked, is_inspection}
@@ -64,15 +67,18 @@ follows_prefix (Some (inspection.Show shown)) = true
 follows_prefix (Some (inspection.Tally seeds)) = false
 follows_prefix (Some inspection.Sum) = false
 follows_prefix (Some (inspection.Survey seeds config)) = false
+follows_prefix (Some inspection.Judge) = false
 follows_prefix None = false
 
--- the text of the script that the words ask for something of: the part before the line `%%`, and with `tally` the whole input. None with `sum`
+-- the text of the script that the words ask for something of: the part before the line `%%`, and with `tally` the whole input. None with `sum` and
+-- `judge`
 abbrev pub script_asked : Option Inspection → List ℕ → Option (List ℕ)
 script_asked (Some (inspection.Continue seed)) input = Some (script_in input)
 script_asked (Some (inspection.Show shown)) input = Some (script_in input)
 script_asked (Some (inspection.Tally seeds)) input = Some input
 script_asked (Some inspection.Sum) input = None
 script_asked (Some (inspection.Survey seeds config)) input = Some (script_in input)
+script_asked (Some inspection.Judge) input = None
 script_asked None input = None
 
 -- ---- what is written
@@ -234,6 +240,8 @@ pub data IsInspected (words : List (List ℕ)) (input : List ℕ) (code : ℕ) (
   Summed : Sums words input code text → IsInspected words input code text
   ExpectationRefused : RefusesExpectation words input code text → IsInspected words input code text
   Surveyed : Surveys words input code text → IsInspected words input code text
+  ReportRefused : RefusesReport words input code text → IsInspected words input code text
+  Judged : Judges words input code text → IsInspected words input code text
 
 -- ---- completeness
 
@@ -252,8 +260,8 @@ pub record IsCodeOfRun (words : List (List ℕ)) (code : ℕ) : Type 0 where
   pub run_code : code < 5
   pub closed : (seed : ℕ) → inspection_asked words ≡ Some (inspection.Continue seed) → code < 4
 
--- the code of an input that is not refused: that of a run; 0 with `tally` if the input spells a script, and with `sum` if it is tallies with a sum; and 0 or 14
--- with `survey` if the input is a script and an expectation
+-- the code of an input that is not refused: that of a run; 0 with `tally` if the input spells a script, and with `sum` if it is tallies with a sum; 0 or 14
+-- with `survey` if the input is a script and an expectation; and 0 or 12 with `judge` if it is read as a report
 pub record IsAcceptedCode (words : List (List ℕ)) (input : List ℕ) (code : ℕ) : Type 0 where
   pub run : follows_prefix (inspection_asked words) ≡ true → IsValidPrefix input → IsCodeOfRun words code
   pub tally : (seeds : Seeds) (script : Script) → inspection_asked words ≡ Some (inspection.Tally seeds) → length input ≤ MAX_INPUT → Spells input script → code ≡ 0
@@ -261,6 +269,8 @@ pub record IsAcceptedCode (words : List (List ℕ)) (input : List ℕ) (code : �
       → tallies_in input ≡ Ok tallies → IsTotalOf tallies (Ok total) → code ≡ 0
   pub survey : (seeds : ℕ) (config : Config) (script : Script) (rules : List Rule) → inspection_asked words ≡ Some (inspection.Survey seeds config)
       → length input ≤ MAX_INPUT → Spells (script_in input) script → expects_in (expectation_in input) ≡ Ok rules → (code ≡ 0) ⊎ (code ≡ 14)
+  pub judge : (config : Config) (lines : List Span) → inspection_asked words ≡ Some inspection.Judge → length input ≤ MAX_INPUT
+      → report_in input ≡ Ok (config, lines) → (code ≡ 0) ⊎ (code ≡ 12)
 
 -- if the source reports its bytes and no call failed, the outcome of all that it had left was written whole, or memory ran out;
 -- with accepted words a valid input is not refused

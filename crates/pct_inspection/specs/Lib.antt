@@ -1,6 +1,7 @@
 pub mod Words
 pub mod Inputs
 pub mod SurveyOutcomes
+pub mod JudgeOutcomes
 pub mod TallyOutcomes
 pub mod Inspection
 pub mod Answer
@@ -8,3 +9,4 @@ pub mod Shown
 pub mod Selections
 pub mod SelectionValues
 pub mod SumLaws
+pub mod JudgeLaws

@@ -30,9 +30,10 @@ use Rattle.pct_inspection.specs.Words.{inspection_asked, is_tallied}
 
 -- ---- what is asked
 
--- it is of a script, and not of tallies
+-- it is of a script, and not of tallies or of a report
 abbrev pub IsOfScript : Inspection → Type 0
 IsOfScript inspection.Sum = ⊥
+IsOfScript inspection.Judge = ⊥
 IsOfScript _ = Unit {0}
 
 -- a range of seeds is one for which a tally is made

@@ -15,7 +15,7 @@ use Rattle.pct_tallies.specs.declared.seeds.TheConstants.{MAX_TALLIED}
 use Rattle.pct_tallies.specs.Seeds.{is_range}
 use Rattle.pct_inspection.specs.declared.words.Form.TheVariants.{Trace, Lanes, Picture}
 use Rattle.pct_inspection.specs.declared.words.Inspection.{Inspection}
-use Rattle.pct_inspection.specs.declared.words.Inspection.TheVariants.{Continue, Show, Tally, Sum, Survey}
+use Rattle.pct_inspection.specs.declared.words.Inspection.TheVariants.{Continue, Show, Tally, Sum, Survey, Judge}
 use Rattle.pct_inspection.specs.declared.words.View.{View}
 use Rattle.pct_inspection.specs.declared.words.View.TheVariants.{Choices, States, Steps}
 use Rattle.pct_inspection.specs.Selections.{selection_asked}
@@ -68,9 +68,9 @@ abbrev pub tally_asked : List (List ℕ) → Option Inspection
 tally_asked (first ∷ last ∷ []) = seeds_asked first last >>= λ seeds. Some (Tally seeds)
 tally_asked _ = None
 
--- the sum of tallies
-abbrev pub sum_asked : List (List ℕ) → Option Inspection
-sum_asked words = if is_empty words then Some Sum else None
+-- what a command asks for that takes no more words
+abbrev pub asked_alone : List (List ℕ) → Inspection → Option Inspection
+asked_alone words asked = if is_empty words then Some asked else None
 
 -- a word begins with the digit 0
 abbrev pub has_leading_zero : List ℕ → Bool
@@ -99,15 +99,16 @@ survey_asked (count ∷ options) = do
   config ← config_asked options
   Some (Survey seeds config)
 
--- what the arguments ask for: `continue` and a seed, `tally` and two seeds, `sum`, `survey`, a number of seeds and options, or the name of a view and a
--- selection
+-- what the arguments ask for: `continue` and a seed, `tally` and two seeds, `sum`, `survey`, a number of seeds and options, `judge`, or the name of a
+-- view and a selection
 unfoldable pub inspection_asked : List (List ℕ) → Option Inspection
 inspection_asked [] = None
 inspection_asked (command ∷ words) =
     if bytes_eq command (codes "continue") then continuation_asked words
     else if bytes_eq command (codes "tally") then tally_asked words
-    else if bytes_eq command (codes "sum") then sum_asked words
+    else if bytes_eq command (codes "sum") then asked_alone words Sum
     else if bytes_eq command (codes "survey") then survey_asked words
+    else if bytes_eq command (codes "judge") then asked_alone words Judge
     else option_and_then (view_asked words) (view_named command)
 
 -- the arguments are accepted; the input is then read

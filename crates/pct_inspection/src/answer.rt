@@ -1,14 +1,15 @@
-//! The answers: a refusal, a run, a view of a run, a tally, or a survey.
+//! The answers: a refusal, a run, a view of a run, a tally, a survey, or what is found of a report.
 
 ghost use Rattle.std.specs.Prelude.{◌≡◌};
 ghost use Rattle.pct_command.specs.Status.{IsAnswered};
 ghost use Rattle.pct_command.specs.Answer.{status_of_verdict};
-ghost use Rattle.pct_inspection.specs.Answer.{status_by, status_of_answer, status_of_survey};
+ghost use Rattle.pct_inspection.specs.Answer.{status_by, status_of_answer, status_of_findings, status_of_survey};
 
 use pct_command::{Refusal, Status};
 use pct_engine::Engine;
 use pct_expect::ExpectWhy;
 use pct_model::Verdict;
+use pct_report_reader::ReportWhy;
 use pct_survey::Survey;
 use pct_tallies::{RangeTally, TallyWhy};
 
@@ -43,6 +44,16 @@ pub(crate) enum Answer {
         line: u32,
         why: TallyWhy,
     },
+    /// The text of what is found of the events of a report, and whether they keep each law.
+    Judged {
+        text: Vec<u8>,
+        kept: bool,
+    },
+    /// One line that names the reason why a report is refused: its line, counted from 1, and why.
+    ReportRefused {
+        line: u32,
+        why: ReportWhy,
+    },
 }
 
 /// Why there is no answer to an input.
@@ -72,6 +83,8 @@ impl Answer {
             Answer::Surveyed(survey) => status_of_survey(survey),
             Answer::ExpectRefused { .. } => Status::ExpectRefused,
             Answer::TallyRefused { .. } => Status::TallyRefused,
+            Answer::Judged { kept, .. } => status_of_findings(*kept),
+            Answer::ReportRefused { .. } => Status::ReportRefused,
         }
     }
 }
@@ -85,6 +98,18 @@ fn status_of_survey(survey: &Survey) -> Status
         Status::ExpectFailed
     } else {
         Status::Complete
+    }
+}
+
+// The status of a report that is judged: whether its events keep each law.
+fn status_of_findings(kept: bool) -> Status
+    ensures status { result ≡ status_of_findings kept }
+    ensures answered { IsAnswered result }
+{
+    if kept {
+        Status::Complete
+    } else {
+        Status::AuditFailed
     }
 }
 

@@ -15,6 +15,7 @@ use pct_command::{Status, write_refusal};
 use pct_engine::Engine;
 use pct_expect::ExpectWhy;
 use pct_io::{Failed, Field, Sink, write_all, write_line};
+use pct_judgement::write_report_refusal;
 use pct_model::Keyword;
 use pct_report::write_report;
 use pct_survey::write_survey;
@@ -32,7 +33,7 @@ pub(crate) fn give_answer<K: Sink>(answer: Answer, sink: &mut K) -> (Status, Res
     (status, written)
 }
 
-// Writes an answer: the line of a refusal, the report of a run and the notice after it, a view, a tally, or a survey.
+// Writes an answer: the line of a refusal, the report of a run and the notice after it, a view, a tally, a survey, or what is found of a report.
 fn write_answer<K: Sink>(answer: &Answer, sink: &mut K) -> Result<(), Failed>
     ensures { Writes K.written K.errors K.inners sink.old sink.new (text_of_answer answer.now) result }
 {
@@ -40,10 +41,12 @@ fn write_answer<K: Sink>(answer: &Answer, sink: &mut K) -> Result<(), Failed>
         Answer::Refused(refusal) => write_refusal(*refusal, sink),
         Answer::Continued { engine, illegal } => write_continued(engine, *illegal, sink),
         Answer::Shown { text, .. } => write_all(sink, text),
+        Answer::Judged { text, .. } => write_all(sink, text),
         Answer::Tallied(range) => write_range_tally(range, sink),
         Answer::Surveyed(survey) => write_survey(survey, sink),
         Answer::ExpectRefused { line, why } => write_expect_refusal(*line, *why, sink),
         Answer::TallyRefused { line, why } => write_tally_refusal(*line, *why, sink),
+        Answer::ReportRefused { line, why } => write_report_refusal(*line, *why, sink),
     }
 }
 

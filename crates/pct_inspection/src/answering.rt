@@ -7,6 +7,7 @@ ghost use Rattle.pct_inspection.specs.TallyOutcomes.{IsAccepted, IsOfScript, par
 
 use crate::answer::Answer;
 use crate::continuing::continue_script;
+use crate::judging::judge_input;
 use crate::resources::Resources;
 use crate::showing::{Parts, show_script};
 use crate::surveying::survey_script;
@@ -33,6 +34,7 @@ pub(crate) fn answer_input<R: Threads + Sync>(
 {
     match asked {
         Inspection::Sum => sum_tallies(resources.alloc, input),
+        Inspection::Judge => judge_input(resources.alloc, input),
         _ => answer_script(resources, asked, selection, input),
     }
 }
@@ -67,7 +69,7 @@ fn answer_script<R: Threads + Sync>(
             Inspection::Survey { seeds, config } => {
                 survey_script(resources, (seeds, config), &script, &input[start..])
             }
-            Inspection::Sum => unreachable!(),
+            Inspection::Sum | Inspection::Judge => unreachable!(),
         },
         Err(ParseFault::Refused { line, why }) => {
             Ok(Answer::Refused(Refusal::Script { line, why }))

@@ -1,7 +1,10 @@
-//! The outcome of an inspection is unique; and the sum of tallies is a tally.
+//! The outcome of an inspection is unique; the sum of tallies is a tally; and the reports of runs keep the laws that `judge` judges by.
 
 ghost use Rattle.pct_inspection.specs.Inspection.{InspectionsAreOne};
+ghost use Rattle.pct_inspection.specs.JudgeLaws.{ReportsKeepLaws};
 ghost use Rattle.pct_inspection.specs.SumLaws.{SumsAreTallies};
+
+use pct_judge_laws::reports_of_runs_keep_laws;
 
 /// An empty function whose contract states a theorem: words and an input have at most one outcome of `inspect`, which is an exit
 /// code and a text. Of `lanes` and `picture`, of whose text nothing is said, they have one exit code.
@@ -14,3 +17,11 @@ pub fn inspections_are_one()
 pub fn sums_are_tallies()
     ensures { SumsAreTallies }
 {}
+
+/// A function without effect whose contract states a theorem: `judge` of the report of a run of a script, if it has at most 16,777,216 bytes,
+/// answers of each law that the events keep it.
+pub fn reports_keep_laws()
+    ensures { ReportsKeepLaws }
+{
+    reports_of_runs_keep_laws();
+}

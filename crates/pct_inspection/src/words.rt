@@ -2,8 +2,8 @@
 
 ghost use Rattle.std.specs.Prelude.{◌≡◌, map, string_bytes};
 ghost use Rattle.std.specs.List.{list_any};
-ghost use Rattle.pct_inspection.specs.Words.{config_asked, continuation_asked, has_leading_zero, inspection_asked, is_of_one_run, is_tallied, seed_count};
-ghost use Rattle.pct_inspection.specs.Words.{seeds_asked, sum_asked, survey_asked, tally_asked, view_asked, view_named};
+ghost use Rattle.pct_inspection.specs.Words.{asked_alone, config_asked, continuation_asked, has_leading_zero, inspection_asked, is_of_one_run, is_tallied};
+ghost use Rattle.pct_inspection.specs.Words.{seed_count, seeds_asked, survey_asked, tally_asked, view_asked, view_named};
 
 use crate::selecting::read_selection;
 use pct_lanes::Selection;
@@ -48,9 +48,11 @@ pub enum Inspection {
     Sum,
     /// Run the script under each seed from 1 to this number, with this configuration, and write what is counted of the rules of an expectation.
     Survey { seeds: u32, config: Config },
+    /// Judge the events of a report by each law that is about events alone, and write what is found.
+    Judge,
 }
 
-/// What the words ask for: `trace`, `choices`, `states` or `sum` alone; `lanes` or `picture` and a selection; `continue` and a seed, which is
+/// What the words ask for: `trace`, `choices`, `states`, `sum` or `judge` alone; `lanes` or `picture` and a selection; `continue` and a seed, which is
 /// 1 to 20 digits; `survey`, a number of seeds from 1 to 100,000 without leading zeros, and options of `run` but `--seed`, `--workers` and
 /// `--turns`; or `tally` and two seeds, which are not 0, of which the second is not less than the first, and which are less than 1,000,000
 /// apart. It is `None` with all other words. It allocates no memory.
@@ -64,9 +66,11 @@ pub fn read_inspection(words: &[String]) -> Option<Inspection>
     } else if command.as_bytes() == b"tally".as_slice() {
         tally_asked(rest)
     } else if command.as_bytes() == b"sum".as_slice() {
-        sum_asked(rest)
+        asked_alone(rest, Inspection::Sum)
     } else if command.as_bytes() == b"survey".as_slice() {
         survey_asked(rest)
+    } else if command.as_bytes() == b"judge".as_slice() {
+        asked_alone(rest, Inspection::Judge)
     } else {
         view_asked(rest, view_named(command.as_bytes())?)
     }
@@ -111,15 +115,11 @@ fn is_tallied(seeds: Seeds) -> bool
     seeds.is_range() && seeds.last - seeds.first < MAX_TALLIED
 }
 
-// The sum, if there are no more words.
-fn sum_asked(words: &[String]) -> Option<Inspection>
-    ensures { result ≡ sum_asked (map string_bytes words.now) }
+// What a command asks for that takes no more words, if there are none.
+fn asked_alone(words: &[String], asked: Inspection) -> Option<Inspection>
+    ensures { result ≡ asked_alone (map string_bytes words.now) asked }
 {
-    if words.is_empty() {
-        Some(Inspection::Sum)
-    } else {
-        None
-    }
+    if words.is_empty() { Some(asked) } else { None }
 }
 
 // The survey of as many seeds as the first word says, with the configuration that the options after it give.

@@ -1,6 +1,6 @@
 //! How far a condition wait is.
 
-/// How far the newest condition wait of a thread is, as the events of the thread report it. The flag tells pthread_cond_timedwait
+/// How far the newest condition wait of a thread is, as the events of the thread report it. The flag distinguishes pthread_cond_timedwait
 /// from pthread_cond_wait; condition variables and mutexes are given by their indexes in the script.
 #[derive(Clone, Copy)]
 pub enum WaitStage {

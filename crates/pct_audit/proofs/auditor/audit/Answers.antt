@@ -5,7 +5,7 @@ use Rattle.pct_model.specs.declared.event.Event.{Event}
 use Rattle.pct_model.specs.declared.event.What.TheVariants as what
 use Rattle.pct_audit.specs.AuditOf.{first_events, first_broken, first_broken_by}
 use Rattle.pct_audit.specs.Tells.{Tells}
-use Rattle.pct_audit.proofs.BrokenLaws.{broken_told, first_more, once_allowed, kept_up_to}
+use Rattle.pct_audit.proofs.BrokenLaws.{broken_told, first_more, kept_up_to}
 use Rattle.pct_audit.proofs.auditor.audit.Goals as goal
 
 pub returns-in-Some : goal.returns-in-Some
@@ -33,7 +33,7 @@ loop-index-preserved c =
     sym (subst (λ (n : ℕ). c.broken_by.result ≡ first_broken_by c.args.passes n e (first_events i all)) c.loop-index.invariant.slots (c.broken_by.ensures (first_events i all) c.loop-index.invariant.told)) ∙ c.in_default.is in
     record {
       told = subst (λ events. Tells c.add.new.self events) (sym more)
-          (c.in_ok-add.ensures.told c.args.passes (first_events i all) c.loop-index.invariant.told (once_allowed c.args.passes c.args.slots e (first_events i all) none));
+          (c.in_ok-add.ensures.told (first_events i all) c.loop-index.invariant.told);
       slots = c.in_ok-add.ensures.slots ∙ c.loop-index.invariant.slots;
       kept = kept_up_to (λ k. first_broken c.args.passes c.args.slots (first_events k all) ≡ None) i c.loop-index.invariant.kept
           (ap (first_broken c.args.passes c.args.slots) more ∙ broken_told c.args.passes c.args.slots e (first_events i all) (c.loop-index.invariant.kept i (le_refl i)) ∙ none);

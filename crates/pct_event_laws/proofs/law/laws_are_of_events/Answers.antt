@@ -1,5 +1,4 @@
 -- The laws of events are among those of runs.
-use Rattle.pct_names.proofs.Names.{and_parts}
 use Rattle.pct_event_laws.proofs.law.laws_are_of_events.Goals as goal
 
 pub returns : goal.returns
@@ -7,7 +6,7 @@ returns c = λ script config entries r laws. record {
   once = laws.once;
   ran_all = laws.ran_all;
   after_end = laws.after_end;
-  leftovers = (and_parts _ _ laws.ends.left).0;
+  leftovers = laws.ends.left;
   keys = laws.calls.keys;
   requests = laws.cancels.requests;
   joins = laws.joins;

@@ -18,7 +18,7 @@ use Rattle.pct_audit.proofs.ProcessesTold.{processes_told}
 use Rattle.pct_audit.proofs.judge.Judge.add.Goals as goal
 
 pub returns-clause-told : goal.returns-clause-told
-returns-clause-told c = λ passes events told may.
+returns-clause-told c = λ events told.
     let e = c.args.event in
     let old = c.args.self.now in
     let second = subst (λ (r : Row). (p t : ℕ) → row_of c.replicate.new.rows p t ≡ cond (nat_eq e.tid t && makes_process p e.what) (copied r (row_of c.mark.new.rows p t)) (row_of c.mark.new.rows p t)) c.at-caller.ensures c.in_ok-replicate.ensures in
@@ -28,7 +28,7 @@ returns-clause-told c = λ passes events told may.
     threads_told e events (row_of old.rows) (row_of c.mark.new.rows) (row_of c.replicate.new.rows) (row_of c.set.new.self) c.in_ok-next.next
     c.in_ok-mark.ensures second c.in_ok-set.ensures made
     old.stacks c.next_row.new.stacks c.in_ok-next.ensures.stacks told.rows
-    (c.in_ok-next.ensures.row passes (summary_of e.pid e.tid events) (subst (λ r. IsRow old.stacks r (summary_of e.pid e.tid events)) (sym c.at-row.ensures) row) may) in
+    (c.in_ok-next.ensures.row (summary_of e.pid e.tid events) (subst (λ r. IsRow old.stacks r (summary_of e.pid e.tid events)) (sym c.at-row.ensures) row)) in
     record {
       rows = threads;
       destroyed = λ p t q k. c.in_ok-add.ensures p t q k ∙ destroyed_told e events p t q k (is_destroyed old.destroyed p t q k) (told.destroyed p t q k);

@@ -1,0 +1,2 @@
+pub mod FoundEvents
+pub mod OneFindings

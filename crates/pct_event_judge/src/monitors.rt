@@ -1,0 +1,94 @@
+//! The monitors of all laws.
+
+ghost use Rattle.std.specs.Prelude.{◌≡◌, ◌<◌, ℕ, List, [], ◌∷◌, IfOk, OnOk};
+ghost use Rattle.pct_model.specs.declared.event.Event.{Event as AnEvent};
+ghost use Rattle.pct_process_monitors.specs.FactsOfThreads.{AreFacts};
+ghost use Rattle.pct_event_judge.specs.Allowed.{AreAllowed};
+
+use crate::findings::Allowed;
+use pct_audit::Judge;
+use pct_handler_monitor::HandlerMonitor;
+use pct_io::NoMemory;
+use pct_model::{Event, What};
+use pct_process_monitors::{KeyMonitor, ProcessMonitor, ThreadFacts};
+use pct_thread_monitors::ThreadMonitor;
+use std::alloc::Global;
+
+/// What the laws read of the events so far.
+#[derive(Drop)]
+pub(crate) struct Monitors {
+    judge: Judge,
+    handlers: HandlerMonitor,
+    threads: ThreadMonitor,
+    processes: ProcessMonitor,
+    keys: KeyMonitor,
+}
+
+impl Monitors {
+    ghost use Rattle.pct_event_judge.specs.Monitored.{AreMonitored, slots_in};
+
+    /// Before the first event.
+    pub fn new(alloc: Global, slots: u32) -> Result<Monitors, NoMemory>
+        requires { 0 < slots }
+        ensures told { IfOk result (λ monitors. AreMonitored monitors []) }
+        ensures slots { IfOk result (λ monitors. slots_in monitors ≡ slots) }
+    {
+        Ok(Monitors {
+            judge: Judge::new(alloc, slots)?,
+            handlers: HandlerMonitor::new(alloc),
+            threads: ThreadMonitor::new(alloc)?,
+            processes: ProcessMonitor::new(alloc),
+            keys: KeyMonitor::new(alloc),
+        })
+    }
+
+    /// After one more event.
+    pub fn add(&mut self, event: Event) -> Result<(), NoMemory>
+        requires told { (events : List AnEvent) × AreMonitored self.old events }
+        ensures slots { OnOk result (slots_in self.new ≡ slots_in self.old) }
+        ensures told { OnOk result ((events : List AnEvent) → AreMonitored self.old events → AreMonitored self.new (event ∷ events)) }
+    {
+        self.handlers.add(&self.judge, event)?;
+        self.judge.add(event)?;
+        self.threads.add(event)?;
+        self.processes.add(event)?;
+        self.keys.add(event)?;
+        Ok(())
+    }
+
+    // What is known of the thread of an event, and of the thread that it joins.
+    fn facts(&self, event: Event) -> ThreadFacts
+        ensures { (events : List AnEvent) → AreMonitored self.now events → AreFacts result event events }
+    {
+        ThreadFacts {
+            known: self.threads.is_known(event.pid, event.tid),
+            ended: self.threads.has_ended(event.pid, event.tid),
+            exiting: self.threads.is_exiting(event.pid, event.tid),
+            joined_known: match event.what {
+                What::Joined(id, _) => self.threads.is_known(event.pid, id),
+                _ => false,
+            },
+        }
+    }
+
+    /// Which laws allow an event, with a limit on the passes over destructors.
+    pub fn allowed(&self, passes: u32, event: Event) -> Allowed
+        requires told { (events : List AnEvent) × AreMonitored self.now events }
+        ensures { (events : List AnEvent) → AreMonitored self.now events → AreAllowed passes (slots_in self.now) event events result }
+    {
+        Allowed {
+            once: self.judge.allows_once(passes, event),
+            ran_all: self.handlers.allows(&self.judge, event),
+            after_end: self.threads.allows_after_end(event),
+            process: self.processes.allows(event, self.facts(event)),
+            slot: self.judge.allows_slot(event),
+            join: self.judge.allows_join(event),
+            cond: self.judge.allows_cond(event),
+            call_once: self.judge.allows_call_once(event),
+            requests: self
+                .threads
+                .allows_request(event, self.judge.stage(event.pid, event.tid)),
+            keys: self.keys.allows(event),
+        }
+    }
+}

@@ -1,0 +1,5 @@
+mod LeftFacts
+mod EndTold
+mod MoreEvents
+mod MoreThreads
+pub mod MoreStacks

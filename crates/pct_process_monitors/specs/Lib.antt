@@ -1,0 +1,5 @@
+pub mod KeysOfProcesses
+pub mod ProcessSets
+pub mod FactsOfThreads
+pub mod ProcessesSoFar
+pub mod UnfollowedEvents

@@ -1,0 +1,2 @@
+pub mod ReportFindings
+pub mod FindingsTexts

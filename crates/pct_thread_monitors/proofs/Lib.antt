@@ -1,0 +1,4 @@
+mod NoteSet
+mod KnownIds
+mod AllEnded
+mod MoreEvents

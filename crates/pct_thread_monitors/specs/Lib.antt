@@ -1,0 +1,4 @@
+pub mod Notes
+pub mod NotesOf
+pub mod IsNote
+pub mod Monitors
