@@ -92,6 +92,8 @@ def fault_cases(answer):
         run_case("expect", "rules that fail", joined(b"count 9 * emit *\nnever 1.1 exit *\n", report("smallest.pct"))),
         run_case("audit", "a report that keeps the laws", report("canceled_wait.pct", "--seed", "5")),
         run_case("audit", "a law that fails", b"report 1\n1.1 push h 1\n1.1 pop h 2 run\nverdict complete\nschedule 1 10 4 64\nend 0\n"),
+        inspect_case("judge", "a report that keeps the laws", report("canceled_wait.pct", "--seed", "5")),
+        inspect_case("judge", "laws that fail", b"report 1\n1.1 push h 1\n1.1 pop h 2 run\n2.1 ended 4\nverdict complete\nschedule 1 10 4 64\nend 0\n"),
         inspect_case("continue 7", "in_the_handler.replay"),
         inspect_case("continue 7", "a notice", waits),
         inspect_case("trace", "a long report", joined(example("endless.pct"), report("endless.pct", "--budget", "6000"))),
@@ -148,15 +150,15 @@ def cut_cases(answer, count):
             report = answer(False, ["run", "--slots", "4", "--budget", "60"], texts[number * 3 % len(texts)])
             rules = b"never * emit 9\nthread * call pthread_join / * joined * *\ncount 1 1.1 exit 0\n"
             return Case(False, ("expect",), "rules and a report", joined(rules, report))
-        if kind == "audit":
-            return Case(False, ("audit",), "a report", answer(False, ["run", "--slots", "4", "--budget", "60"], texts[number * 5 % len(texts)]))
+        if kind in ("audit", "judge"):
+            return Case(kind == "judge", (kind,), "a report", answer(False, ["run", "--slots", "4", "--budget", "60"], texts[number * 5 % len(texts)]))
         text = replays[number % len(replays)][0]
         if kind == "report":
             text = joined(text.split(b"%%\n")[0], answer(False, ["replay"], text))
             return Case(False, ("replay",), "a script and a report", text)
         return Case(kind != "replay", tuple(kind.split(" ")), "a script and a schedule", text)
 
-    kinds = ["run", "replay", "check", "expect", "audit", "random", "report", "trace", "run", "continue 3", "choices", "sum", "states", "lanes", "survey 3", "picture", "replay", "sample 3", "tally 4 6"]
+    kinds = ["run", "replay", "check", "expect", "audit", "judge", "random", "report", "trace", "run", "continue 3", "choices", "sum", "states", "lanes", "survey 3", "picture", "replay", "sample 3", "tally 4 6"]
     cases = []
     while len(cases) < count:
         case = made(kinds[number % len(kinds)])

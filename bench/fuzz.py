@@ -15,7 +15,8 @@ seed S is always the same input; --only makes that one alone. These are the laws
 - `continue` of a prefix of a report's schedule begins with this prefix; each entry that `choices` lists for it is accepted by `replay`,
   with any worker, and others are refused at their number; a view has the status of `replay`, or its refusal, or the notice of its entry;
 - `expect` reads each report of a run, and its answers are those that are worked out here; `survey` counts these answers;
-- the report of a run keeps the laws of `audit`;
+- the report of a run keeps the laws of `audit` and `judge`; of another report an audit says what the lines of its laws say, and refuses what
+  `judge` refuses;
 - the sum of the tallies of two ranges is the tally of both;
 - an input through a pipe in pieces has the same answer.
 

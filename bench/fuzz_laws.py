@@ -7,7 +7,9 @@ from fuzz_inputs import MARKER_LINE, Inputs, script_of
 from program import Program
 
 VIEWS = ["trace", "choices", "states", "lanes", "picture"]
-INSPECT = {*VIEWS, "continue", "tally", "sum", "survey"}
+INSPECT = {*VIEWS, "continue", "tally", "sum", "survey", "judge"}
+# The laws that an audit judges, in its order.
+AUDITED = ["once", "slot", "join", "cond", "call_once"]
 MARKER = b"%%\n"
 # The most events of which rules are judged here, since each is compared with each other.
 JUDGED = 80
@@ -127,6 +129,7 @@ class Laws:
             return
         self.try_rules(lines[1:at], report)
         self.equal("the report of a run keeps the laws of an audit", ["audit"], report, (0, b"audit ok %d\n" % (at - 1)))
+        self.equal("the report of a run keeps all laws of events", ["judge"], report, (0, whole_texts.ALL_KEPT.encode()))
         header, entries = lines[at + 1], lines[at + 2:-1]
         if inputs.chance(0.5):
             self.try_prefix(text, header, entries[:inputs.random.randint(0, len(entries))])
@@ -278,12 +281,21 @@ class Laws:
         self.answer(["expect"], inputs.changed(text) if inputs.chance(0.8) else text)
 
     def try_audit(self):
-        """Reports that are made or changed."""
+        """Reports that are made or changed: an audit names the first event that `judge` names for one of its laws, and the first such law."""
         inputs = self.inputs
         report = inputs.report()
         if inputs.chance(0.7):
             report = self.answer(["run", *self.options()], inputs.script())[1]
-        self.answer(["audit"], inputs.changed(report) if inputs.chance(0.8) else report)
+        if inputs.chance(0.8):
+            report = inputs.changed(report)
+        judged, text = self.answer(["judge"], report)
+        if judged == 13:
+            return self.equal("an audit refuses what judge refuses", ["audit"], report, (judged, text))
+        found = [line.split(" ") for line in text.decode().splitlines()]
+        named = [(int(words[2]), AUDITED.index(words[0])) for words in found if words[0] in AUDITED and words[1] == "event"]
+        events = report.split(b"\nverdict ")[0].count(b"\n")
+        expected = (12, b"audit event %d %s\n" % (min(named)[0], AUDITED[min(named)[1]].encode())) if named else (0, b"audit ok %d\n" % events)
+        self.equal("an audit says what the lines of its laws say", ["audit"], report, expected)
 
     def try_tallies(self):
         """The tally of two ranges is the sum of their tallies."""

@@ -14,7 +14,7 @@ VIEWS = {0, 1, 2, 3, 4, 6, 7}
 STATUSES = {
     "run": {0, 1, 2, 3, 6}, "replay": {0, 1, 2, 3, 4, 6, 7}, "check": {0, 6}, "sample": {0, 6}, "expect": {0, 13, 14, 15}, "audit": {0, 12, 13}, "points": {0}, "demo": {0},
     "continue": {0, 1, 2, 3, 6, 7}, "trace": VIEWS, "choices": VIEWS, "states": VIEWS, "lanes": VIEWS, "picture": VIEWS,
-    "tally": {0, 6}, "sum": {0, 16}, "survey": {0, 6, 14, 15},
+    "tally": {0, 6}, "sum": {0, 16}, "survey": {0, 6, 14, 15}, "judge": {0, 12, 13},
 }
 # Refusals: the pattern of the line, and its status.
 REFUSALS = {"words": 5, "input": 8, "script": 6, "schedule": 7, "entry": 7, "expect": 15, "report": 13, "tally": 16}
@@ -34,6 +34,9 @@ TALLY = re.compile(
     rf"complete {FIRST}\ndeadlock {FIRST}\nbudget {FIRST}\n(?:{STOP} {NUMBER} first {NUMBER}\n)*joined {NUMBER}\ncanceled {NUMBER}\nleast {NUMBER}\nmost {NUMBER}\n"
 )
 AUDIT = {0: re.compile(rf"audit ok {NUMBER}\n"), 12: re.compile(rf"audit event {NUMBER} (?:once|slot|join|cond|call_once)\n")}
+LAWS = ("once", "ran_all", "after_end", "process", "slot", "join", "cond", "call_once", "requests", "keys", "leftover")
+JUDGE = re.compile("".join(rf"{law} (?:kept|event {NUMBER} {EVENT.pattern})\n" for law in LAWS))
+ALL_KEPT = "".join(f"{law} kept\n" for law in LAWS)
 DEMO = re.compile(rf"demo {NUMBER}\nthreads {NUMBER}\nrounds {NUMBER}\nsteps {NUMBER}\ntotal {NUMBER}\nverdict (?:complete|{STOP})\n")
 POINTS = re.compile(r"(?:[a-z_0-9]+ (?:required|optional) (?:no_wait|outside|never|inside)\n){58}")
 SURVEY = re.compile(
@@ -193,6 +196,8 @@ def body_fault(command, text, status):
         return expect_fault(lines, status)
     if command == "audit":
         return None if AUDIT[status].fullmatch(text) else "no answer of this status"
+    if command == "judge":
+        return None if JUDGE.fullmatch(text) and (status == 0) == (text == ALL_KEPT) else "no answer of this status"
     if command == "survey":
         failed = re.search(r"\tfails [1-9]", text)
         return None if SURVEY.fullmatch(text) and (status == 14) == bool(failed) else "no whole survey"
@@ -208,6 +213,8 @@ def features(command, status, output):
         found.add(" ".join(word for word in lines[0].split(" ") if not word.isdigit()))
     elif command == "audit":
         found.add(" ".join(word for word in lines[0].split(" ") if not word.isdigit()) if lines else "no answer")
+    elif command == "judge":
+        found.update(" ".join(line.split(" ")[:2]) for line in lines)
     elif command in ("run", "replay", "continue"):
         at = next((i for i, line in enumerate(lines) if line.startswith("verdict ")), 0)
         found.update(f"event {event_form(line)}" for line in lines[1:at])
