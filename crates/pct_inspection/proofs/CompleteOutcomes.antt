@@ -1,5 +1,5 @@
 -- The outcome of an input that is not refused, and the answer to all that a source had left.
-use Rattle.pct_names.proofs.Names.{◌<◌, ◌⊎◌, ap, Appends, arith, Bool, code_of_verdict, cond, Config, Entry, false, first_illegal, FirstFault, inl, inr, length, List, None, none-some, Ok}
+use Rattle.pct_names.proofs.Names.{◌<◌, ◌⊎◌, ap, Appends, arith, Bool, code_of_verdict, cond, Config, Entry, false, first_illegal, FirstFault, inl, inr, length, List, None, Ok}
 use Rattle.pct_names.proofs.Names.{Option, ParseWhy, refl, Run, same_Some, Script, Some, Spells, subst, sym, true, Verdict, verdict_of, ℕ, ◌∙◌, ◌≡◌, ◌≤◌}
 use Rattle.std.proofs.lemmas.Bool.{true≢false}
 use Rattle.pct_model.specs.declared.stop.Verdict.TheVariants as verdict

@@ -1,5 +1,5 @@
 -- A report has one judgement, and is not empty.
-use Rattle.pct_names.proofs.Names.{◌<◌, ◌∙◌, ◌≡◌, ap, Config, Err, length, List, Ok, Option, same_Some, Some, subst, sym, ℕ}
+use Rattle.pct_names.proofs.Names.{◌<◌, ◌≡◌, ap, Config, Err, length, List, Option, same_Some, Some, subst, ℕ}
 use Rattle.pct_model.specs.declared.event.Event.{Event}
 use Rattle.pct_expect.specs.declared.span.Span.{Span}
 use Rattle.pct_report_reader.specs.declared.fault.ReportWhy.{ReportWhy}

@@ -23,11 +23,11 @@ use std::thread::Threads;
 /// Does what the words ask for on the bytes of the source, and writes the answer to the sink.
 ///
 /// The words are `continue` and a seed, one of `trace`, `choices`, `states`, `lanes` and `picture`, `tally` and two seeds, `sum`,
-/// `judge`, or `survey`, a number of seeds from 1 to 100,000 and options of `run` but `--seed`, `--workers` and `--turns`. With `tally` the input is a
-/// script, with `sum` it is tallies, with `judge` a report, and with `survey` a script, a line `%%`, and an expectation. With the others it is a
-/// script, a line `%%`, and a prefix of a schedule: a schedule or a whole report, in which the line `end N` may be missing. Without a line `%%`, or with nothing after it, the prefix
-/// has no entry, and the numbers of the run are those of `run` without options. The run makes the steps of the prefix, up to the first entry that is
-/// not legal.
+/// `judge`, or `survey`, a number of seeds from 1 to 100,000 and options of `run` but `--seed`, `--workers` and `--turns`. With `tally`
+/// the input is a script, with `sum` it is tallies, with `judge` a report, and with `survey` a script, a line `%%`, and an expectation.
+/// With the others it is a script, a line `%%`, and a prefix of a schedule: a schedule or a whole report, in which the line `end N` may
+/// be missing. Without a line `%%`, or with nothing after it, the prefix has no entry, and the numbers of the run are those of `run`
+/// without options. The run makes the steps of the prefix, up to the first entry that is not legal.
 ///
 /// - `continue`: worker 1 makes each further step, as two words of its random stream choose under the seed, until the verdict is not `Open`.
 ///   The report is written.
@@ -46,8 +46,9 @@ use std::thread::Threads;
 /// - `survey`: the script is run under each seed from 1 to the number, as `run --seed S` does with these options and one worker. It is written of how
 ///   many of the runs each rule of the expectation holds and of how many it does not, and how many end with each verdict, each with the first seed.
 ///   The runs are spread over threads, as those of `tally` are.
-/// - `judge`: for each law that is about events alone it is written whether the events of the report keep it, and if not, which is the first event that
-///   the law does not allow. Whoever wrote the report, nothing but its events and its limits is looked at.
+/// - `judge`: for each law that is about events alone it is written whether the events of the report keep it, and if not, which is the
+///   first event that the law does not allow. The laws are judged with the limits of the report's schedule; its verdict and its entries
+///   are not compared with the events.
 ///
 /// After a report or a view, if entry N of the prefix is not legal, a line `entry N is not legal here` is written. A refusal is one line that names
 /// the reason.
@@ -59,7 +60,7 @@ use std::thread::Threads;
 /// - `ScriptRefused`: the text of the script has a fault.
 /// - `TallyRefused`: the input of `sum` has a line that is none of a tally, or the tallies have no sum.
 /// - `ReportRefused`: the input of `judge` is not a report.
-/// - `Complete` or `AuditFailed`, from `judge`: what is found was written, and the events keep each law, or there is a law that they do not keep.
+/// - `Complete` or `AuditFailed`, from `judge`: what is found was written, and the events keep each law, or they do not keep one.
 /// - `Complete`, from `tally` and `sum`: the tally was written, whatever the verdicts of its runs are.
 /// - `ExpectRefused`: the expectation of `survey` has a fault.
 /// - `Complete` or `ExpectFailed`, from `survey`: what is counted was written, and each rule holds of each run, or one does not.

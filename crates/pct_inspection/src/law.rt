@@ -18,8 +18,8 @@ pub fn sums_are_tallies()
     ensures { SumsAreTallies }
 {}
 
-/// A function without effect whose contract states a theorem: `judge` of the report of a run of a script, if it has at most 16,777,216 bytes,
-/// answers of each law that the events keep it.
+/// A function without effect whose contract states a theorem: `judge` of the report of a run of a script, if it has at most 16,777,216
+/// bytes, answers of each law that the events keep it.
 pub fn reports_keep_laws()
     ensures { ReportsKeepLaws }
 {

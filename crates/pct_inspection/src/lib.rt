@@ -1,8 +1,8 @@
 //! The program that inspects runs: `inspect` reads words and an input. `continue` goes on with a run that begins with the entries
 //! of a given prefix of a schedule, as a seed chooses. `trace`, `choices`, `states`, `lanes` and `picture` show the run of these entries.
 //! `tally` counts how the runs of a script under the seeds of a range end, and `sum` adds such tallies. `survey` counts of how many runs of a
-//! script under the seeds from 1 on the rules of an expectation hold. `judge` says for each law that is about events alone whether the events of a
-//! report keep it.
+//! script under the seeds from 1 on the rules of an expectation hold. `judge` says for each law that is about events alone whether the
+//! events of a report keep it.
 #![tactic(auto)]
 
 mod answer;
