@@ -56,7 +56,7 @@ pub fn audit(
                 law,
             }));
         }
-        judge.add(event)?;
+        judge = judge.add(event)?;
     }
     Ok(None)
 }

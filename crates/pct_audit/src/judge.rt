@@ -67,8 +67,19 @@ impl Judge {
         })
     }
 
-    /// After one more event, whatever it is.
-    pub fn add(&mut self, event: Event) -> Result<(), NoMemory>
+    /// After one more event, whatever it is. Where memory runs out the judge is dropped.
+    pub fn add(mut self, event: Event) -> Result<Judge, NoMemory>
+        requires told { (events : List Event) × Tells self events }
+        ensures slots { IfOk result (λ next. slot_count next ≡ slot_count self) }
+        ensures stacks { IfOk result (λ next. Grows (handler_stacks self) (handler_stacks next)) }
+        ensures told { IfOk result (λ next. (events : List Event) → Tells self events → Tells next (event ∷ events)) }
+    {
+        self.take_in(event)?;
+        Ok(self)
+    }
+
+    // Takes in one more event, or after `NoMemory` a part of it.
+    fn take_in(&mut self, event: Event) -> Result<(), NoMemory>
         requires told { (events : List Event) × Tells self.old events }
         ensures slots { OnOk result (slot_count self.new ≡ slot_count self.old) }
         ensures stacks { OnOk result (Grows (handler_stacks self.old) (handler_stacks self.new)) }

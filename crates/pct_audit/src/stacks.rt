@@ -1,6 +1,6 @@
 //! Stacks of handlers that share what is below their tops.
 
-ghost use Rattle.std.specs.Prelude.{◌≡◌, ℕ, ◌<◌, ◌≤◌, List, [], ◌∷◌, ◌++◌, length, OnOk, IfOk};
+ghost use Rattle.std.specs.Prelude.{◌≡◌, ℕ, ◌<◌, ◌≤◌, List, [], ◌∷◌, ◌++◌, length, OnOk, OnErr, IfOk};
 ghost use Rattle.pct_model.specs.Actions.{without_first};
 ghost use Rattle.pct_audit.specs.Stacks.{newest};
 
@@ -46,11 +46,12 @@ impl Stacks {
         }
     }
 
-    /// A new stack: a handler on a stack.
+    /// A new stack: a handler on a stack. After `NoMemory` there is none.
     pub fn push(&mut self, stack: usize, f: u32, a: u32) -> Result<usize, NoMemory>
         requires { stack < length self.old }
         ensures number { IfOk result (λ number. number ≡ length self.old) }
         ensures ok { OnOk result (self.new ≡ self.old ++ ((f, a) ∷ stack_at self.old stack) ∷ []) }
+        ensures unchanged { OnErr result (self.new ≡ self.old) }
     {
         let depth = self.depth(stack) + 1;
         self.nodes.push(Node {

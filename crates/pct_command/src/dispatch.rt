@@ -2,8 +2,10 @@
 
 ghost use Rattle.std.specs.Prelude.{◌≡◌, ◌⊎◌, List, ℕ, true, false, not, map, string_bytes, Ok as Gives, IfOk, IsErrOf};
 ghost use Rattle.pct_model.specs.declared.keyword.Keyword.TheVariants as keyword;
+ghost use Rattle.pct_model.specs.declared.limits.TheConstants.{MAX_INPUT};
 ghost use Rattle.pct_model.specs.Outcome.{asks_demo, is_asked};
 ghost use Rattle.pct_io.specs.Inners.{KeepsInners};
+ghost use Rattle.pct_io.specs.Reads.{ReadsAll};
 ghost use Rattle.pct_command.specs.Answer.{AnswersRead, IsDemonstrated, ReadsInput};
 ghost use Rattle.pct_command.specs.Command.{Answers, HasRead, IsAnswer, IsComplete, Records};
 ghost use Rattle.pct_command.specs.Words.{Asks, HasInput, accepts, reads_input, takes_memory};
@@ -155,7 +157,7 @@ fn answer_input<R: Threads + Sync, S: Source, G: Gate>(
     ensures answer { (words : List (List ℕ)) → Asks words job → IfOk result (λ answer. AnswersRead words (S.left source.old) (S.left source.new) answer) }
     ensures reads { ReadsInput S.left S.errors true source.old source.new result }
 {
-    match read_all(runtime.alloc, source, MAX_INPUT) {
+    match read_input(runtime.alloc, source) {
         Ok(text) => match answer_of(runtime, job, &text) {
             Ok(answer) => Ok(answer),
             Err(NoMemory) => Err(Unanswered::NoMemory),
@@ -164,4 +166,12 @@ fn answer_input<R: Threads + Sync, S: Source, G: Gate>(
         Err(ReadEnd::Failed) => Err(Unanswered::ReadFault),
         Err(ReadEnd::NoMemory) => Err(Unanswered::NoMemory),
     }
+}
+
+// Reads the input. The buffer that a read fills is in the frame of this call, and so not on the stack while the input is answered.
+#[inline(never)]
+fn read_input<S: Source>(alloc: Global, source: &mut S) -> Result<Vec<u8>, ReadEnd>
+    ensures { ReadsAll S.left S.errors source.old source.new MAX_INPUT result }
+{
+    read_all(alloc, source, MAX_INPUT)
 }

@@ -31,7 +31,7 @@ pub fn judge_events(
     for index in 0..events.len() {
         let event = events[index];
         found = found.noted(monitors.allowed(passes, event), index as u32 + 1);
-        monitors.add(event)?;
+        monitors = monitors.add(event)?;
     }
     Ok(Findings {
         leftover: first_unfollowed(events),

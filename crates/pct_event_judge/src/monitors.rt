@@ -1,6 +1,6 @@
 //! The monitors of all laws.
 
-ghost use Rattle.std.specs.Prelude.{◌≡◌, ◌<◌, ℕ, List, [], ◌∷◌, IfOk, OnOk};
+ghost use Rattle.std.specs.Prelude.{◌≡◌, ◌<◌, ℕ, List, [], ◌∷◌, IfOk};
 ghost use Rattle.pct_model.specs.declared.event.Event.{Event as AnEvent};
 ghost use Rattle.pct_process_monitors.specs.FactsOfThreads.{AreFacts};
 ghost use Rattle.pct_event_judge.specs.Allowed.{AreAllowed};
@@ -42,18 +42,23 @@ impl Monitors {
         })
     }
 
-    /// After one more event.
-    pub fn add(&mut self, event: Event) -> Result<(), NoMemory>
-        requires told { (events : List AnEvent) × AreMonitored self.old events }
-        ensures slots { OnOk result (slots_in self.new ≡ slots_in self.old) }
-        ensures told { OnOk result ((events : List AnEvent) → AreMonitored self.old events → AreMonitored self.new (event ∷ events)) }
+    /// After one more event. Where memory runs out the monitors are dropped.
+    pub fn add(mut self, event: Event) -> Result<Monitors, NoMemory>
+        requires told { (events : List AnEvent) × AreMonitored self events }
+        ensures slots { IfOk result (λ next. slots_in next ≡ slots_in self) }
+        ensures told { IfOk result (λ next. (events : List AnEvent) → AreMonitored self events → AreMonitored next (event ∷ events)) }
     {
         self.handlers.add(&self.judge, event)?;
-        self.judge.add(event)?;
-        self.threads.add(event)?;
-        self.processes.add(event)?;
         self.keys.add(event)?;
-        Ok(())
+        let judge = self.judge.add(event)?;
+        let threads = self.threads.add(event)?;
+        let processes = self.processes.add(event)?;
+        Ok(Monitors {
+            judge,
+            threads,
+            processes,
+            ..self
+        })
     }
 
     // What is known of the thread of an event, and of the thread that it joins.

@@ -1,6 +1,6 @@
 //! The monitor of the law of handlers that ran.
 
-ghost use Rattle.std.specs.Prelude.{◌≡◌, ℕ, ◌<◌, ◌&&◌, List, [], ◌∷◌, length, reverse, IfOk, IfSome, OnOk, option_map};
+ghost use Rattle.std.specs.Prelude.{◌≡◌, ℕ, ◌<◌, ◌&&◌, List, [], ◌∷◌, length, reverse, IfOk, IfSome, OnOk, OnErr, option_map};
 ghost use Rattle.pct_model.specs.declared.event.Event.{Event as AnEvent};
 ghost use Rattle.pct_laws.specs.RanAll as RanAll;
 ghost use Rattle.pct_laws.specs.RanAll.{has_begun, are_same, handlers_run, open_at_ending};
@@ -82,8 +82,8 @@ impl HandlerMonitor {
     ) -> Result<RanHandlers, NoMemory>
         requires told { (events : List AnEvent) × Tells judge.now events }
         requires within { ran < length self.old.ran }
-        ensures threads { OnOk result (self.new.threads ≡ self.old.threads) }
-        ensures stacks { OnOk result (Grows self.old.ran self.new.ran) }
+        ensures threads { self.new.threads ≡ self.old.threads }
+        ensures stacks { Grows self.old.ran self.new.ran }
         ensures thread { IfOk result (λ next. (events : List AnEvent) → Tells judge.now events → IsBeforeEnd self.old.ran ran event.pid event.tid events → IsRan next self.new.ran (handler_stacks judge.now) event.pid event.tid (event ∷ events)) }
     {
         if let Some((f, a)) = handler_run(event.what) {
@@ -107,8 +107,8 @@ impl HandlerMonitor {
     ) -> Result<RanHandlers, NoMemory>
         requires told { (events : List AnEvent) × Tells judge.now events }
         requires kept { (events : List AnEvent) × IsRan thread self.old.ran (handler_stacks judge.now) event.pid event.tid events }
-        ensures threads { OnOk result (self.new.threads ≡ self.old.threads) }
-        ensures stacks { OnOk result (Grows self.old.ran self.new.ran) }
+        ensures threads { self.new.threads ≡ self.old.threads }
+        ensures stacks { Grows self.old.ran self.new.ran }
         ensures thread { IfOk result (λ next. (events : List AnEvent) → Tells judge.now events → IsRan thread self.old.ran (handler_stacks judge.now) event.pid event.tid events → IsRan next self.new.ran (handler_stacks judge.now) event.pid event.tid (event ∷ events)) }
     {
         match thread {
@@ -119,11 +119,12 @@ impl HandlerMonitor {
         }
     }
 
-    /// After one more event: `judge` has seen those before it.
+    /// After one more event: `judge` has seen those before it. After `NoMemory` the monitor keeps the events that it kept before.
     pub fn add(&mut self, judge: &Judge, event: Event) -> Result<(), NoMemory>
         requires told { (events : List AnEvent) × Tells judge.now events }
         requires kept { (events : List AnEvent) × MonitorsHandlers self.old (handler_stacks judge.now) events }
-        ensures { OnOk result ((events : List AnEvent) → Tells judge.now events → MonitorsHandlers self.old (handler_stacks judge.now) events → MonitorsHandlers self.new (handler_stacks judge.now) (event ∷ events)) }
+        ensures ok { OnOk result ((events : List AnEvent) → Tells judge.now events → MonitorsHandlers self.old (handler_stacks judge.now) events → MonitorsHandlers self.new (handler_stacks judge.now) (event ∷ events)) }
+        ensures unchanged { OnErr result ((events : List AnEvent) → Tells judge.now events → MonitorsHandlers self.old (handler_stacks judge.now) events → MonitorsHandlers self.new (handler_stacks judge.now) events) }
     {
         let thread = self.thread(event.pid, event.tid);
         let next = self.after(judge, thread, event)?;

@@ -2,6 +2,8 @@
 
 ghost use Rattle.std.specs.Prelude.{◌≡◌, ◌⊎◌, List, ℕ, true, false, map, string_bytes, Ok as Gives, IfOk, IfErr};
 ghost use Rattle.pct_io.specs.Inners.{KeepsInners};
+ghost use Rattle.pct_io.specs.Reads.{ReadsAll};
+ghost use Rattle.pct_model.specs.declared.limits.TheConstants.{MAX_INPUT};
 ghost use Rattle.pct_command.specs.Command.{Answers, HasRead, Records};
 ghost use Rattle.pct_inspection.specs.Answer.{AnswersRead, AsksFor, ReadsInput};
 ghost use Rattle.pct_inspection.specs.Inspection.{IsInspected, IsWhole};
@@ -146,7 +148,7 @@ fn answer_read<R: Threads + Sync, S: Source>(
     ensures answer { (words : List (List ℕ)) → AsksFor words asked → IfOk result (λ answer. AnswersRead words (S.left source.old) (S.left source.new) answer) }
     ensures reads { ReadsInput S.left S.errors source.old source.new result }
 {
-    match read_all(resources.alloc, source, MAX_INPUT) {
+    match read_input(resources.alloc, source) {
         Ok(text) => match answer_input(resources, asked, selection, &text) {
             Ok(answer) => Ok(answer),
             Err(NoMemory) => Err(Unanswered::NoMemory),
@@ -155,4 +157,12 @@ fn answer_read<R: Threads + Sync, S: Source>(
         Err(ReadEnd::Failed) => Err(Unanswered::ReadFault),
         Err(ReadEnd::NoMemory) => Err(Unanswered::NoMemory),
     }
+}
+
+// Reads the input. The buffer that a read fills is in the frame of this call, and so not on the stack while the input is answered.
+#[inline(never)]
+fn read_input<S: Source>(alloc: Global, source: &mut S) -> Result<Vec<u8>, ReadEnd>
+    ensures { ReadsAll S.left S.errors source.old source.new MAX_INPUT result }
+{
+    read_all(alloc, source, MAX_INPUT)
 }

@@ -21,7 +21,7 @@ use pct_io::{Failed, NoMemory};
 use pct_lanes::{Selection, lanes, picture};
 use pct_model::{Config, Entry, Script, Verdict, format_of};
 use pct_script::{StatementLines, statement_lines};
-use pct_view_texts::{TextBuffer, push_choices, push_states, push_trace};
+use pct_view_texts::{TextBuffer, TracedSteps, choices_text, states_text, trace_text};
 use std::alloc::Global;
 
 /// The parts of an input.
@@ -116,8 +116,7 @@ fn show_reached(
     ensures shown { (after : Run) → IsRunOf engine.now after → IfOk result (ShowsState (state_text view lines.now engine.now after) engine.now after illegal) }
 {
     let verdict = engine.verdict();
-    let mut text = TextBuffer::new(alloc);
-    push_state(alloc, &mut text, view, lines, engine)?;
+    let mut text = state_text(alloc, view, lines, engine)?;
     push_notice(&mut text, illegal)?;
     Ok(Answer::Shown {
         text: text.into_bytes(),
@@ -126,20 +125,19 @@ fn show_reached(
     })
 }
 
-// Appends the text of a view of the state after the run of an engine.
-fn push_state(
+// The text of a view of the state after the run of an engine. A view of the steps shows nothing of it.
+fn state_text(
     alloc: Global,
-    text: &mut TextBuffer,
     view: View,
     lines: &StatementLines,
     engine: &Engine,
-) -> Result<(), NoMemory>
-    ensures { (after : Run) → IsRunOf engine.now after → Appends text.old text.new (state_text view lines.now engine.now after) result }
+) -> Result<TextBuffer, NoMemory>
+    ensures { (after : Run) → IsRunOf engine.now after → IfOk result (λ text. text_in text ≡ state_text view lines.now engine.now after) }
 {
     match view {
-        View::Choices => push_choices(text, lines, engine),
-        View::States => push_states(alloc, text, lines, engine),
-        View::Steps(_) => Ok(()),
+        View::Choices => choices_text(alloc, lines, engine),
+        View::States => states_text(alloc, lines, engine),
+        View::Steps(_) => Ok(TextBuffer::new(alloc)),
     }
 }
 
@@ -175,8 +173,7 @@ fn trace_entries(
     requires few { length entries.now ≤ engine.old.config.budget }
     ensures { IfOk result (λ steps. ShowsTrace lines.now engine.old.script engine.old.config entries.now steps.illegal (text_in steps.text) steps.verdict) }
 {
-    let mut text = TextBuffer::new(alloc);
-    let illegal = push_trace(&mut text, lines, engine, entries)?;
+    let TracedSteps { mut text, illegal } = trace_text(alloc, lines, engine, entries)?;
     push_notice(&mut text, illegal)?;
     let state = state_in_form(alloc, lines, engine, form)?;
     Ok(Steps {
@@ -194,12 +191,10 @@ fn state_in_form(
     engine: &Engine,
     form: Form,
 ) -> Result<TextBuffer, NoMemory> {
-    let mut text = TextBuffer::new(alloc);
     match form {
-        Form::Picture => push_choices(&mut text, lines, engine)?,
-        Form::Trace | Form::Lanes => {}
+        Form::Picture => choices_text(alloc, lines, engine),
+        Form::Trace | Form::Lanes => Ok(TextBuffer::new(alloc)),
     }
-    Ok(text)
 }
 
 // The answer that shows the steps of a text of `trace` in a form.

@@ -1,6 +1,6 @@
 //! The monitor of the law of keys.
 
-ghost use Rattle.std.specs.Prelude.{◌≡◌, List, [], ◌∷◌, OnOk};
+ghost use Rattle.std.specs.Prelude.{◌≡◌, List, [], ◌∷◌, OnOk, OnErr};
 ghost use Rattle.pct_model.specs.declared.event.Event.{Event as AnEvent};
 ghost use Rattle.pct_laws.specs.KeysLaw as KeysLaw;
 
@@ -28,9 +28,10 @@ impl KeyMonitor {
         }
     }
 
-    /// After one more event.
+    /// After one more event. After `NoMemory` the monitor keeps the events that it kept before.
     pub fn add(&mut self, event: Event) -> Result<(), NoMemory>
-        ensures { OnOk result ((events : List AnEvent) → AreKeys self.old events → AreKeys self.new (event ∷ events)) }
+        ensures ok { OnOk result ((events : List AnEvent) → AreKeys self.old events → AreKeys self.new (event ∷ events)) }
+        ensures unchanged { OnErr result ((events : List AnEvent) → AreKeys self.old events → AreKeys self.new events) }
     {
         match event.what {
             What::Forked(child) => self.keys.copy(event.pid, child),

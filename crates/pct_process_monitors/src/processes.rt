@@ -1,6 +1,6 @@
 //! The monitor of the law of processes.
 
-ghost use Rattle.std.specs.Prelude.{◌≡◌, ℕ, List, [], ◌∷◌, OnOk};
+ghost use Rattle.std.specs.Prelude.{◌≡◌, ℕ, List, [], ◌∷◌, IfOk, OnOk};
 ghost use Rattle.pct_model.specs.declared.event.Event.{Event as AnEvent};
 ghost use Rattle.pct_laws.specs.ProcessEnds.{end_status, exit_value};
 ghost use Rattle.pct_laws.specs.ProcessLaw as ProcessLaw;
@@ -46,8 +46,16 @@ impl ProcessMonitor {
         }
     }
 
-    /// After one more event. After `NoMemory` the monitor is of no use.
-    pub fn add(&mut self, event: Event) -> Result<(), NoMemory>
+    /// After one more event. Where memory runs out the monitor is dropped.
+    pub fn add(mut self, event: Event) -> Result<ProcessMonitor, NoMemory>
+        ensures { IfOk result (λ next. (events : List AnEvent) → MonitorsProcesses self events → MonitorsProcesses next (event ∷ events)) }
+    {
+        self.take_in(event)?;
+        Ok(self)
+    }
+
+    // Takes in one more event, or after `NoMemory` a part of it.
+    fn take_in(&mut self, event: Event) -> Result<(), NoMemory>
         ensures { OnOk result ((events : List AnEvent) → MonitorsProcesses self.old events → MonitorsProcesses self.new (event ∷ events)) }
     {
         change_status(&mut self.statuses, event)?;

@@ -45,8 +45,16 @@ impl ThreadMonitor {
         })
     }
 
-    /// After one more event.
-    pub fn add(&mut self, event: Event) -> Result<(), NoMemory>
+    /// After one more event. Where memory runs out the monitor is dropped.
+    pub fn add(mut self, event: Event) -> Result<ThreadMonitor, NoMemory>
+        ensures { IfOk result (λ next. (events : List Event) → Monitors self events → Monitors next (event ∷ events)) }
+    {
+        self.take_in(event)?;
+        Ok(self)
+    }
+
+    // Takes in one more event, or after `NoMemory` a part of it.
+    fn take_in(&mut self, event: Event) -> Result<(), NoMemory>
         ensures { OnOk result ((events : List Event) → Monitors self.old events → Monitors self.new (event ∷ events)) }
     {
         self.mark(event.pid, event.what)?;

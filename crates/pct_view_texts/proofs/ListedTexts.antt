@@ -20,7 +20,7 @@ use Rattle.pct_views.specs.ShownThreads.{ShowsThread, ShowsOne}
 use Rattle.pct_view_texts.specs.Choices.{choices_text, thread_fields, thread_lines}
 use Rattle.pct_view_texts.specs.Fields.{fields_text}
 use Rattle.pct_view_texts.specs.ListedLines.{choice_line, entry_lines, goes_on, lines_by, listed_if_some}
-use Rattle.pct_view_texts.proofs.Appending.{as_text, both_texts, then_text}
+use Rattle.pct_view_texts.proofs.Appending.{as_text, both_texts, first_texts, then_text}
 
 -- ---- lists
 
@@ -158,15 +158,15 @@ all_lines lines script config w n some =
     ∙ flat_map_agree (lines_by lines script (is_none w.stop)) (thread_lines lines script w) (thread_lines_by lines script w) (listed_seen script config v)
     ∙ ap (flat_map (thread_lines lines script w)) (sym (listed_is_seen script config w some))
 
--- the line of the verdict was appended, and then the lines of the threads
-pub all_text : {E : Type 0} (r : Result (Unit {0}) E) (old mid new : List ℕ) (lines : List (List ℕ)) (source : Script) (going : Bool) (script : Script) (config : Config) (w : World) (n : ℕ) (verdict : Verdict)
-    → 0 < config.slots → source ≡ script → verdict ≡ verdict_of script config w n → going ≡ goes_on verdict → mid ≡ old ++ line_text (verdict_line verdict)
-    → OnOk r (new ≡ mid ++ flat_map (lines_by lines source going) (listed_seen script config (seen config.slots w))) → OnOk r (new ≡ old ++ choices_text lines script config w n)
+-- the line of the verdict was appended to an empty text, and then the lines of the threads
+pub all_text : (start mid new : List ℕ) (lines : List (List ℕ)) (source : Script) (going : Bool) (script : Script) (config : Config) (w : World) (n : ℕ) (verdict : Verdict)
+    → 0 < config.slots → source ≡ script → verdict ≡ verdict_of script config w n → going ≡ goes_on verdict → start ≡ [] → mid ≡ start ++ line_text (verdict_line verdict)
+    → new ≡ mid ++ flat_map (lines_by lines source going) (listed_seen script config (seen config.slots w)) → new ≡ choices_text lines script config w n
 unfolding choices_text
-all_text r old mid new lines source going script config w n verdict some same is goes first second =
+all_text start mid new lines source going script config w n verdict some same is goes none first second =
     let listed = listed_seen script config (seen config.slots w) in
     let line = line_text (verdict_line (verdict_of script config w n)) in
     let goes_so : going ≡ goes_on (verdict_of script config w n) = goes ∙ ap goes_on is in
-    as_text r old new (line_text (verdict_line verdict) ++ flat_map (lines_by lines source going) listed) (line ++ flat_map (thread_lines lines script w) (listed_threads script config w))
-    ((λ i. line_text (verdict_line (is i)) ++ flat_map (lines_by lines (same i) (goes_so i)) listed) ∙ ap (λ (text : List ℕ). line ++ text) (all_lines lines script config w n some))
-    (then_text r old mid new (line_text (verdict_line verdict)) (flat_map (lines_by lines source going) listed) first second)
+    first_texts start mid new (line_text (verdict_line verdict)) (flat_map (lines_by lines source going) listed) none first second
+    ∙ (λ i. line_text (verdict_line (is i)) ++ flat_map (lines_by lines (same i) (goes_so i)) listed)
+    ∙ ap (λ (text : List ℕ). line ++ text) (all_lines lines script config w n some)

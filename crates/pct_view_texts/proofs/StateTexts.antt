@@ -10,7 +10,7 @@ use Rattle.pct_keys.specs.Tables.{row_at}
 use Rattle.pct_engine_laws.specs.Seen.{SeenSlot, SeenProcess, Seen, seen, threads_on}
 use Rattle.pct_engine_laws.proofs.ListFacts.{flat_map_agree, flat_map-flat_map}
 use Rattle.pct_view_laws.specs.Listed.{is_unended}
-use Rattle.pct_view_laws.specs.ListedProcesses.{ListedProcess, listed_processes, process_in, processes_seen}
+use Rattle.pct_view_laws.specs.ListedProcesses.{ListedProcess, process_in, processes_seen}
 use Rattle.pct_view_laws.proofs.ProcessesSeen.{processes_are_seen}
 use Rattle.pct_views.specs.declared.thread_state.ThreadState.{ThreadState}
 use Rattle.pct_views.specs.ShownStates.{ShowsState, ShowsOneState}
@@ -19,7 +19,7 @@ use Rattle.pct_view_texts.specs.ListedLines.{process_lines_seen, values_lines}
 use Rattle.pct_view_texts.specs.Positions.{position_phrases}
 use Rattle.pct_view_texts.specs.States.{frame_phrase, key_phrases, mutex_phrases, process_fields, process_lines, registered_phrases, specific_phrases, states_text, value_phrases, values_fields}
 use Rattle.pct_view_texts.proofs.FieldTexts.{last_field, next_field, one_word}
-use Rattle.pct_view_texts.proofs.Appending.{as_text, then_text}
+use Rattle.pct_view_texts.proofs.Appending.{as_text, first_texts, then_text}
 use Rattle.pct_view_texts.proofs.ListedTexts.{next_text}
 
 -- ---- threads
@@ -172,15 +172,14 @@ module _ (lines : List (List ℕ)) (script : Script) where
       flat_map_agree (process_lines_seen lines script) (λ p. flat_map (process_lines lines script) (listed p)) (λ p. lines_by (is_some p.ended) (process_in p)) v.processes
       ∙ sym (flat_map-flat_map (process_lines lines script) listed v.processes)
 
--- the line of the verdict was appended, and then the lines of the processes
-pub all_text : {E : Type 0} (r : Result (Unit {0}) E) (old mid new : List ℕ) (lines : List (List ℕ)) (source script : Script) (config : Config) (w : World) (n : ℕ) (verdict : Verdict)
-    → 0 < config.slots → source ≡ script → verdict ≡ verdict_of script config w n → mid ≡ old ++ line_text (verdict_line verdict)
-    → OnOk r (new ≡ mid ++ flat_map (process_lines_seen lines source) (seen config.slots w).processes) → OnOk r (new ≡ old ++ states_text lines script config w n)
+-- the line of the verdict was appended to an empty text, and then the lines of the processes
+pub all_text : (start mid new : List ℕ) (lines : List (List ℕ)) (source script : Script) (config : Config) (w : World) (n : ℕ) (verdict : Verdict)
+    → 0 < config.slots → source ≡ script → verdict ≡ verdict_of script config w n → start ≡ [] → mid ≡ start ++ line_text (verdict_line verdict)
+    → new ≡ mid ++ flat_map (process_lines_seen lines source) (seen config.slots w).processes → new ≡ states_text lines script config w n
 unfolding states_text
-all_text r old mid new lines source script config w n verdict some same is first second =
+all_text start mid new lines source script config w n verdict some same is none first second =
     let v : Seen = seen config.slots w in
     let line = line_text (verdict_line (verdict_of script config w n)) in
-    as_text r old new (line_text (verdict_line verdict) ++ flat_map (process_lines_seen lines source) v.processes) (line ++ flat_map (process_lines lines script) (listed_processes config w))
-    ((λ i. line_text (verdict_line (is i)) ++ flat_map (process_lines_seen lines (same i)) v.processes)
-    ∙ ap (λ (text : List ℕ). line ++ text) (all_lines lines script v ∙ ap (flat_map (process_lines lines script)) (sym (processes_are_seen config w some))))
-    (then_text r old mid new (line_text (verdict_line verdict)) (flat_map (process_lines_seen lines source) v.processes) first second)
+    first_texts start mid new (line_text (verdict_line verdict)) (flat_map (process_lines_seen lines source) v.processes) none first second
+    ∙ (λ i. line_text (verdict_line (is i)) ++ flat_map (process_lines_seen lines (same i)) v.processes)
+    ∙ ap (λ (text : List ℕ). line ++ text) (all_lines lines script v ∙ ap (flat_map (process_lines lines script)) (sym (processes_are_seen config w some)))

@@ -1,7 +1,7 @@
--- The lines of the steps of a run, and of a run with one entry more.
+-- The lines of the steps of a run, and of a run with one entry more; and which entries an engine has made the steps of.
 use Rattle.pct_names.proofs.Names.{◌+◌, ◌++◌, [], ap, arith, Config, drop, drop-append_seam, Entry, enumerate_from, Event, event_of}
-use Rattle.pct_names.proofs.Names.{flat_map, flat_map-cons, length, length-map, List, map, map-id, Option, reverse, Run, run, Script, Some}
-use Rattle.pct_names.proofs.Names.{step, Successor, sym, What, ℕ, ◌∙◌, ◌∷◌, ◌≡◌, ◌≤◌}
+use Rattle.pct_names.proofs.Names.{flat_map, flat_map-cons, get_or, length, length-map, List, map, map-id, Option, reverse, Run, run, Script, Some}
+use Rattle.pct_names.proofs.Names.{step, Successor, sym, take, take_more, What, ℕ, ◌<◌, ◌∙◌, ◌∷◌, ◌≡◌, ◌≤◌}
 use Rattle.std.proofs.Common.{length-append}
 use Rattle.std.proofs.lemmas.Grind.{flat_map-append}
 use Rattle.std.proofs.lemmas.List.{append-nil}
@@ -11,7 +11,7 @@ use Rattle.pct_view_laws.specs.declared.position.StepStart.{StepStart}
 use Rattle.pct_view_laws.specs.TracedSteps.{TracedStep, start_in, steps_from, steps_of}
 use Rattle.pct_view_laws.proofs.TracedRuns.{traces_runs, steps_more, events_more}
 use Rattle.pct_view_texts.specs.Fields.{fields_text}
-use Rattle.pct_view_texts.specs.NextSteps.{steps_text}
+use Rattle.pct_view_texts.specs.NextSteps.{MakesSomeOf, steps_text}
 use Rattle.pct_view_texts.specs.Trace.{step_fields, steps_text_from}
 
 -- ---- one line more
@@ -83,3 +83,21 @@ module _ (engine engine_after : EngineValue) (e : Entry) (before after : Run) (m
       (same_line lines engine.script script (length steps + 1) (length history) _ _
       (sym (script_is ∙ ap (λ (v : EngineValue). v.script) made)) count
       (ap (λ (o : Option StepStart). record { start = o; entry = e; events = s.events }) (sym begins) ∙ ap (λ (xs : List What). record { start = start; entry = e; events = xs }) events))
+
+-- ---- some of the entries
+
+-- from an engine without entries, the steps of the first entries were made
+pub some_made : (opened engine : EngineValue) (entries : List Entry) (count : ℕ) → opened.history ≡ [] → engine ≡ record opened { history = take count entries } → MakesSomeOf entries opened engine
+some_made opened engine entries count none made = record {
+  count = count;
+  engine_is = made ∙ ap (λ (before : List Entry). record opened { history = before ++ take count entries }) (sym none);
+}
+
+-- and then that of the next one
+pub some_more : (opened so_far engine : EngineValue) (entries : List Entry) (i : ℕ) (d : Entry) → opened.history ≡ [] → so_far ≡ record opened { history = take i entries } → i < length entries
+    → engine ≡ record so_far { history = so_far.history ++ get_or entries i d ∷ [] } → MakesSomeOf entries opened engine
+some_more opened so_far engine entries i d none made within next =
+    some_made opened engine entries (i + 1) none
+    (next
+    ∙ ap (λ (v : EngineValue). record v { history = v.history ++ get_or entries i d ∷ [] }) made
+    ∙ ap (λ (history : List Entry). record opened { history = history }) (sym (take_more entries i d within)))

@@ -1,5 +1,5 @@
 -- The next step of an engine, and the lines of its steps.
-use Rattle.std.specs.Prelude.{◌≡◌, ℕ, List, [], ◌∷◌, ◌++◌}
+use Rattle.std.specs.Prelude.{◌≡◌, ℕ, List, [], ◌∷◌, ◌++◌, take}
 use Rattle.pct_model.specs.declared.schedule.Entry.{Entry}
 use Rattle.pct_engine.specs.EngineStates.{EngineValue, IsRunWith}
 use Rattle.pct_view_laws.specs.TracedSteps.{steps_of}
@@ -22,3 +22,8 @@ pub record RefusesStep (entry : Entry) (engine_before engine_after : EngineValue
   pub illegal : ¬ IsRunWith engine_before entry
   pub engine_is : engine_after ≡ engine_before
   pub text_is : text_in text_after ≡ text_in text_before
+
+-- the steps of some of the first of these entries were made
+pub record MakesSomeOf (entries : List Entry) (engine_before engine_after : EngineValue) : Type 0 where
+  pub count : ℕ
+  pub engine_is : engine_after ≡ record engine_before { history = engine_before.history ++ take count entries }

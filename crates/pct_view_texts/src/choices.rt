@@ -1,6 +1,6 @@
 //! The text of `choices`: the line of the verdict, and the threads that have not ended, each with its legal entries.
 
-ghost use Rattle.std.specs.Prelude.{◌≡◌, ◌<◌, ◌≤◌, true, [], ◌∷◌, flat_map, is_some, length, slice_get};
+ghost use Rattle.std.specs.Prelude.{◌≡◌, ◌<◌, ◌≤◌, true, [], ◌∷◌, flat_map, is_some, length, slice_get, IfOk};
 ghost use Rattle.std.specs.Option.{option_map_or};
 ghost use Rattle.pct_engine.specs.EngineStates.{IsRunOf};
 ghost use Rattle.pct_engine_laws.specs.Seen.{SeenProcess, seen};
@@ -13,7 +13,7 @@ ghost use Rattle.pct_transitions.specs.Programs.{ProgramValue};
 ghost use Rattle.pct_view_laws.specs.Listed.{ListedThread};
 ghost use Rattle.pct_view_laws.specs.SeenViews.{listed_process, listed_seen};
 ghost use Rattle.pct_views.specs.ShownThreads.{ShowsThread, listed_at};
-ghost use Rattle.pct_view_texts.specs.TextBuffers.{Appends};
+ghost use Rattle.pct_view_texts.specs.TextBuffers.{text_in, Appends};
 ghost use Rattle.pct_view_texts.specs.Choices.{choices_text};
 ghost use Rattle.pct_view_texts.specs.ListedLines.{choice_line, entry_lines, goes_on, lines_by, listed_if_some};
 
@@ -27,19 +27,20 @@ use pct_machine::ProcessView;
 use pct_model::{Alt, Entry, MAX_PROCESSES, Verdict};
 use pct_script::StatementLines;
 use pct_views::{ThreadView, choice_count, choice_on, thread_on};
+use std::alloc::Global;
 
-/// Appends the text of `choices` in the state of a run: the line of the verdict, and for each thread that has not ended a line, with those of
-/// its legal entries with worker 1 below it. `lines` are the lines of the text of the engine's script. `NoMemory` is returned if memory runs
-/// out.
-pub fn push_choices(
-    text: &mut TextBuffer,
+/// The text of `choices` in the state of a run: the line of the verdict, and for each thread that has not ended a line, with those of its
+/// legal entries with worker 1 below it. `lines` are the lines of the text of the engine's script. `NoMemory` is returned if memory runs out.
+pub fn choices_text(
+    alloc: Global,
     lines: &StatementLines,
     engine: &Engine,
-) -> Result<(), NoMemory>
-    ensures { (after : Run) → IsRunOf engine.now after → Appends text.old text.new (choices_text lines.now engine.now.script engine.now.config after.world (length engine.now.history)) result }
+) -> Result<TextBuffer, NoMemory>
+    ensures { (after : Run) → IsRunOf engine.now after → IfOk result (λ text. text_in text ≡ choices_text lines.now engine.now.script engine.now.config after.world (length engine.now.history)) }
 {
+    let mut text = TextBuffer::new(alloc);
     let verdict = engine.verdict();
-    push_verdict(text, verdict)?;
+    push_verdict(&mut text, verdict)?;
     let listing = Listing {
         source: Source {
             script: engine.script(),
@@ -47,7 +48,8 @@ pub fn push_choices(
         },
         goes_on: goes_on(verdict),
     };
-    push_processes(text, listing, engine)
+    push_processes(&mut text, listing, engine)?;
+    Ok(text)
 }
 
 // Which script the threads are of that are listed, and whether its run goes on: after a stop no entry is legal.

@@ -22,8 +22,8 @@ mod values;
 mod verdict;
 mod wait;
 
-pub use choices::push_choices;
+pub use choices::choices_text;
 pub use source::Source;
-pub use states::push_states;
+pub use states::states_text;
 pub use text_buffer::TextBuffer;
-pub use trace::push_trace;
+pub use trace::{TracedSteps, trace_text};

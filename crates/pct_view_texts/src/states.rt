@@ -1,6 +1,6 @@
 //! The text of `states`: the line of the verdict, and the processes that have not ended, each with its threads that have not ended.
 
-ghost use Rattle.std.specs.Prelude.{◌≡◌, ◌<◌, ◌≤◌, [], filter, flat_map, length, slice_get};
+ghost use Rattle.std.specs.Prelude.{◌≡◌, ◌<◌, ◌≤◌, [], filter, flat_map, length, slice_get, IfOk};
 ghost use Rattle.std.specs.Option.{option_map_or};
 ghost use Rattle.pct_engine.specs.EngineStates.{IsRunOf};
 ghost use Rattle.pct_engine_laws.specs.Seen.{SeenProcess, seen, threads_on};
@@ -11,7 +11,7 @@ ghost use Rattle.pct_process.specs.ProcessViews.{slot_on};
 ghost use Rattle.pct_transitions.specs.Programs.{ProgramValue};
 ghost use Rattle.pct_view_laws.specs.Listed.{is_unended};
 ghost use Rattle.pct_view_laws.specs.ListedProcesses.{ListedProcess, processes_seen};
-ghost use Rattle.pct_view_texts.specs.TextBuffers.{Appends};
+ghost use Rattle.pct_view_texts.specs.TextBuffers.{text_in, Appends};
 ghost use Rattle.pct_view_texts.specs.ListedLines.{process_lines_seen, values_lines};
 ghost use Rattle.pct_view_texts.specs.States.{process_lines, states_text};
 
@@ -27,23 +27,24 @@ use pct_script::StatementLines;
 use pct_views::state_on;
 use std::alloc::Global;
 
-/// Appends the text of `states` in the state of a run: the line of the verdict, and for each process that has not ended a line with its
-/// values, and below it one for each of its threads that has not ended. `lines` are the lines of the text of the engine's script. `NoMemory`
-/// is returned if memory runs out.
-pub fn push_states(
+/// The text of `states` in the state of a run: the line of the verdict, and for each process that has not ended a line with its values, and
+/// below it one for each of its threads that has not ended. `lines` are the lines of the text of the engine's script. `NoMemory` is returned
+/// if memory runs out.
+pub fn states_text(
     alloc: Global,
-    text: &mut TextBuffer,
     lines: &StatementLines,
     engine: &Engine,
-) -> Result<(), NoMemory>
-    ensures { (after : Run) → IsRunOf engine.now after → Appends text.old text.new (states_text lines.now engine.now.script engine.now.config after.world (length engine.now.history)) result }
+) -> Result<TextBuffer, NoMemory>
+    ensures { (after : Run) → IsRunOf engine.now after → IfOk result (λ text. text_in text ≡ states_text lines.now engine.now.script engine.now.config after.world (length engine.now.history)) }
 {
-    push_verdict(text, engine.verdict())?;
+    let mut text = TextBuffer::new(alloc);
+    push_verdict(&mut text, engine.verdict())?;
     let source = Source {
         script: engine.script(),
         lines,
     };
-    push_processes(alloc, text, source, engine)
+    push_processes(alloc, &mut text, source, engine)?;
+    Ok(text)
 }
 
 // Appends the lines of all processes that have not ended.

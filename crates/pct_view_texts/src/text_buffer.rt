@@ -42,7 +42,7 @@ impl TextBuffer {
     }
 
     /// Appends bytes. `NoMemory` is returned if memory runs out.
-    pub fn push(&mut self, piece: &[u8]) -> Result<(), NoMemory>
+    pub(crate) fn push(&mut self, piece: &[u8]) -> Result<(), NoMemory>
         ensures { Appends self.old self.new piece.now result }
     {
         self.bytes.extend_from_slice(piece)?;
@@ -50,21 +50,21 @@ impl TextBuffer {
     }
 
     /// Appends a number in decimal.
-    pub fn push_number(&mut self, number: u32) -> Result<(), NoMemory>
+    pub(crate) fn push_number(&mut self, number: u32) -> Result<(), NoMemory>
         ensures { Appends self.old self.new (decimal number) result }
     {
         self.push(Buffer::new().format(number).as_bytes())
     }
 
     /// Appends a count in decimal.
-    pub fn push_count(&mut self, count: usize) -> Result<(), NoMemory>
+    pub(crate) fn push_count(&mut self, count: usize) -> Result<(), NoMemory>
         ensures { Appends self.old self.new (decimal count) result }
     {
         self.push(Buffer::new().format(count).as_bytes())
     }
 
     /// Appends two numbers in decimal, separated by a dot.
-    pub fn push_dotted(&mut self, first: u32, second: u32) -> Result<(), NoMemory>
+    pub(crate) fn push_dotted(&mut self, first: u32, second: u32) -> Result<(), NoMemory>
         ensures { Appends self.old self.new (decimal first ++ 46 ∷ decimal second) result }
     {
         self.push_number(first)?;
@@ -73,7 +73,7 @@ impl TextBuffer {
     }
 
     /// Appends a field.
-    pub fn push_field(&mut self, field: &Field) -> Result<(), NoMemory>
+    pub(crate) fn push_field(&mut self, field: &Field) -> Result<(), NoMemory>
         ensures { Appends self.old self.new (field_text field.now) result }
     {
         match field {
@@ -85,7 +85,7 @@ impl TextBuffer {
     }
 
     /// Appends fields, separated by one space.
-    pub fn push_words(&mut self, words: &[Field]) -> Result<(), NoMemory>
+    pub(crate) fn push_words(&mut self, words: &[Field]) -> Result<(), NoMemory>
         ensures { Appends self.old self.new (join_with_byte 32 (map field_text words.now)) result }
     {
         match words.split_first() {
@@ -109,7 +109,7 @@ impl TextBuffer {
     }
 
     /// Appends a line: the fields, separated by one space, then LF (byte 10).
-    pub fn push_line(&mut self, words: &[Field]) -> Result<(), NoMemory>
+    pub(crate) fn push_line(&mut self, words: &[Field]) -> Result<(), NoMemory>
         ensures { Appends self.old self.new (join_with_byte 32 (map field_text words.now) ++ 10 ∷ []) result }
     {
         self.push_words(words)?;

@@ -32,9 +32,9 @@ loop-index-preserved c =
     let none : first_broken_by c.args.passes c.args.slots e (first_events i all) ≡ None =
     sym (subst (λ (n : ℕ). c.broken_by.result ≡ first_broken_by c.args.passes n e (first_events i all)) c.loop-index.invariant.slots (c.broken_by.ensures (first_events i all) c.loop-index.invariant.told)) ∙ c.in_default.is in
     record {
-      told = subst (λ events. Tells c.add.new.self events) (sym more)
-          (c.in_ok-add.ensures.told (first_events i all) c.loop-index.invariant.told);
-      slots = c.in_ok-add.ensures.slots ∙ c.loop-index.invariant.slots;
+      told = subst (λ events. Tells c.in_ok-judge-2.judge events) (sym more)
+          (c.in_ok-judge-2.ensures.told (first_events i all) c.loop-index.invariant.told);
+      slots = c.in_ok-judge-2.ensures.slots ∙ c.loop-index.invariant.slots;
       kept = kept_up_to (λ k. first_broken c.args.passes c.args.slots (first_events k all) ≡ None) i c.loop-index.invariant.kept
           (ap (first_broken c.args.passes c.args.slots) more ∙ broken_told c.args.passes c.args.slots e (first_events i all) (c.loop-index.invariant.kept i (le_refl i)) ∙ none);
     }

@@ -17,8 +17,8 @@ loop-index-preserved c =
     let more : first_events (i + 1) all ≡ e ∷ before = one_more all i (record { pid = 0; tid = 0; what = what.Emit 0 }) c.loop-index-test.true in
     let kept = c.loop-index.invariant in
     record {
-      told = subst (λ (events : List Event). AreMonitored c.add.new.self events) (sym more) (c.in_ok-add.ensures.told before kept.told);
-      slots = c.in_ok-add.ensures.slots ∙ kept.slots;
+      told = subst (λ (events : List Event). AreMonitored c.in_ok-monitors-2.monitors events) (sym more) (c.in_ok-monitors-2.ensures.told before kept.told);
+      slots = c.in_ok-monitors-2.ensures.slots ∙ kept.slots;
       found = c.noted-found.ensures c.args.passes c.args.slots i e all refl more
           (subst (λ (slots : ℕ). AreAllowed c.args.passes slots e before c.allowed.result) kept.slots (c.allowed.ensures before kept.told))
           kept.found;

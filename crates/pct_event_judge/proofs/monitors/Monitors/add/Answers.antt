@@ -5,11 +5,11 @@ use Rattle.pct_handler_monitor.proofs.MoreStacks.{monitors_grows}
 use Rattle.pct_event_judge.proofs.monitors.Monitors.add.Goals as goal
 
 pub returns-clause-told : goal.returns-clause-told
-returns-clause-told c = λ events told. let old = c.args.self.now in record {
-  judge = c.in_ok-add-2.ensures.told events told.judge;
-  handlers = monitors_grows c.add.new.self (handler_stacks old.judge) (handler_stacks c.add-2.new.self) (c.args.event ∷ events)
-      (c.in_ok-add.ensures events told.judge told.handlers) c.in_ok-add-2.ensures.stacks;
-  threads = c.in_ok-add-3.ensures events told.threads;
-  processes = c.in_ok-add-4.ensures events told.processes;
-  keys = c.in_ok-add-5.ensures events told.keys;
+returns-clause-told c = λ events told. let old = c.args.self in record {
+  judge = c.in_ok-judge.ensures.told events told.judge;
+  handlers = monitors_grows c.add.new.self (handler_stacks old.judge) (handler_stacks c.in_ok-judge.judge) (c.args.event ∷ events)
+      (c.in_ok-add.ensures.ok events told.judge told.handlers) c.in_ok-judge.ensures.stacks;
+  threads = c.in_ok-threads.ensures events told.threads;
+  processes = c.in_ok-processes.ensures events told.processes;
+  keys = c.in_ok-add-2.ensures.ok events told.keys;
 }

@@ -1,11 +1,11 @@
--- The answer for `add`.
+-- The answer for `take_in`.
 use Rattle.std.proofs.Common.{◌≡◌, ℕ, cond, subst, nat_eq, ◌&&◌, ◌∙◌, ap}
 use Rattle.pct_laws.specs.KnownThreads.{makes_process}
 use Rattle.pct_thread_monitors.specs.declared.note.Note.{Note}
 use Rattle.pct_thread_monitors.specs.Notes.{copied, next_note}
 use Rattle.pct_thread_monitors.specs.NotesOf.{note_of}
 use Rattle.pct_thread_monitors.proofs.MoreEvents.{notes_told}
-use Rattle.pct_thread_monitors.proofs.monitor.ThreadMonitor.add.Goals as goal
+use Rattle.pct_thread_monitors.proofs.monitor.ThreadMonitor.take_in.Goals as goal
 
 pub returns : goal.returns
 returns c = λ events told.

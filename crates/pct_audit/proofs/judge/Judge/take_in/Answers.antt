@@ -1,4 +1,4 @@
--- The answer for `add`.
+-- The answer for `take_in`.
 use Rattle.std.proofs.Common.{◌≡◌, ℕ, refl, sym, subst, cond, nat_eq, ◌&&◌, ◌∙◌, ap, ◌∷◌}
 use Rattle.pct_model.specs.ThreadSlots.{slot_of}
 use Rattle.pct_laws.specs.KnownThreads.{makes_process}
@@ -15,7 +15,7 @@ use Rattle.pct_audit.specs.Rows.{row_of}
 use Rattle.pct_audit.proofs.HoldersTold.{holders_told, live_told}
 use Rattle.pct_audit.proofs.MoreEvents.{summary_own, threads_told, destroyed_told}
 use Rattle.pct_audit.proofs.ProcessesTold.{processes_told}
-use Rattle.pct_audit.proofs.judge.Judge.add.Goals as goal
+use Rattle.pct_audit.proofs.judge.Judge.take_in.Goals as goal
 
 pub returns-clause-told : goal.returns-clause-told
 returns-clause-told c = λ events told.
