@@ -12,7 +12,6 @@ BUILT = ROOT / "crates/pct_run/out/pct_run"
 INSPECT = ROOT / "crates/pct_inspect/out/pct_inspect"
 # A start takes a few milliseconds. One that has not ended after this time is ended, and counts as a hang.
 SECONDS = 30
-HANG = "no end"
 # A pipe whose reads end where a write ended.
 PACKETS = os.O_DIRECT
 # The page that the library of faults.c shares with us: its struct page up to `loaded`, and after it. Before `loaded` comes `is_alone`.
@@ -25,6 +24,19 @@ FOREVER = 2**62
 
 class Hang(Exception):
     pass
+
+
+class NoEnd(int):
+    """A number above each status, which is written as `no end`."""
+
+    def __repr__(self):
+        return "no end"
+
+    __str__ = __repr__
+
+
+# In the place of a status: the program was ended.
+HANG = NoEnd(1000)
 
 
 def on_alarm(_signal, _frame):
