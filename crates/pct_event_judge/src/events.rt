@@ -33,6 +33,7 @@ pub fn judge_events(
         found = found.noted(monitors.allowed(passes, event), index as u32 + 1);
         monitors = monitors.add(event)?;
     }
+    drop(monitors);
     Ok(Findings {
         leftover: first_unfollowed(events),
         ..found

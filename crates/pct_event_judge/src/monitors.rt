@@ -24,6 +24,14 @@ pub(crate) struct Monitors {
     keys: KeyMonitor,
 }
 
+// The monitors of which one event changes several tables.
+#[derive(Drop)]
+struct Tables {
+    judge: Judge,
+    threads: ThreadMonitor,
+    processes: ProcessMonitor,
+}
+
 impl Monitors {
     ghost use Rattle.pct_event_judge.specs.Monitored.{AreMonitored, slots_in};
 
@@ -33,10 +41,18 @@ impl Monitors {
         ensures told { IfOk result (λ monitors. AreMonitored monitors []) }
         ensures slots { IfOk result (λ monitors. slots_in monitors ≡ slots) }
     {
+        let judge = Judge::new(alloc, slots)?;
+        let threads = match ThreadMonitor::new(alloc) {
+            Ok(threads) => threads,
+            Err(error) => {
+                drop(judge);
+                return Err(error);
+            }
+        };
         Ok(Monitors {
-            judge: Judge::new(alloc, slots)?,
+            judge,
             handlers: HandlerMonitor::new(alloc),
-            threads: ThreadMonitor::new(alloc)?,
+            threads,
             processes: ProcessMonitor::new(alloc),
             keys: KeyMonitor::new(alloc),
         })
@@ -50,13 +66,16 @@ impl Monitors {
     {
         self.handlers.add(&self.judge, event)?;
         self.keys.add(event)?;
-        let judge = self.judge.add(event)?;
-        let threads = self.threads.add(event)?;
-        let processes = self.processes.add(event)?;
+        let tables = Tables {
+            judge: self.judge,
+            threads: self.threads,
+            processes: self.processes,
+        };
+        let tables = tables.add(event)?;
         Ok(Monitors {
-            judge,
-            threads,
-            processes,
+            judge: tables.judge,
+            threads: tables.threads,
+            processes: tables.processes,
             ..self
         })
     }
@@ -95,5 +114,52 @@ impl Monitors {
                 .allows_request(event, self.judge.stage(event.pid, event.tid)),
             keys: self.keys.allows(event),
         }
+    }
+}
+
+impl Tables {
+    ghost use Rattle.pct_audit.specs.IsRow.{Grows};
+    ghost use Rattle.pct_audit.specs.Tells.{Tells, handler_stacks, slot_count};
+    ghost use Rattle.pct_process_monitors.specs.ProcessesSoFar.{MonitorsProcesses};
+    ghost use Rattle.pct_thread_monitors.specs.Monitors.{Monitors as MonitorsThreads};
+
+    // After one more event.
+    fn add(self, event: Event) -> Result<Tables, NoMemory>
+        requires told { (events : List AnEvent) × Tells self.judge events }
+        ensures slots { IfOk result (λ next. slot_count next.judge ≡ slot_count self.judge) }
+        ensures stacks { IfOk result (λ next. Grows (handler_stacks self.judge) (handler_stacks next.judge)) }
+        ensures told { IfOk result (λ next. (events : List AnEvent) → Tells self.judge events → Tells next.judge (event ∷ events)) }
+        ensures threads { IfOk result (λ next. (events : List AnEvent) → MonitorsThreads self.threads events → MonitorsThreads next.threads (event ∷ events)) }
+        ensures processes { IfOk result (λ next. (events : List AnEvent) → MonitorsProcesses self.processes events → MonitorsProcesses next.processes (event ∷ events)) }
+    {
+        let judge = match self.judge.add(event) {
+            Ok(judge) => judge,
+            Err(error) => {
+                drop(self.threads);
+                drop(self.processes);
+                return Err(error);
+            }
+        };
+        let threads = match self.threads.add(event) {
+            Ok(threads) => threads,
+            Err(error) => {
+                drop(judge);
+                drop(self.processes);
+                return Err(error);
+            }
+        };
+        let processes = match self.processes.add(event) {
+            Ok(processes) => processes,
+            Err(error) => {
+                drop(judge);
+                drop(threads);
+                return Err(error);
+            }
+        };
+        Ok(Tables {
+            judge,
+            threads,
+            processes,
+        })
     }
 }

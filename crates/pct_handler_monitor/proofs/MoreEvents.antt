@@ -37,13 +37,6 @@ pushed_grows before after stack is = record {
   same = λ k within. ap (λ (stacks : List Stack). stack_at stacks k) is ∙ front before (stack ∷ []) k within;
 }
 
--- stacks that are the same
-pub same_grows : (before after : List Stack) → after ≡ before → Grows before after
-same_grows before after is = record {
-  more = omega (arith, ap length is);
-  same = λ k within. ap (λ (stacks : List Stack). stack_at stacks k) is;
-}
-
 module _ (e : Event) (events : List Event) (pid tid : ℕ) where
   -- whether the thread has begun to end, if the newest event does not change that
   same_begun : (begun : Bool) → (is_own pid tid e && begins_to_end e.what) ≡ false → has_begun pid tid events ≡ begun → has_begun pid tid (e ∷ events) ≡ begun

@@ -6,10 +6,10 @@ use Rattle.pct_event_judge.proofs.monitors.Monitors.add.Goals as goal
 
 pub returns-clause-told : goal.returns-clause-told
 returns-clause-told c = λ events told. let old = c.args.self in record {
-  judge = c.in_ok-judge.ensures.told events told.judge;
-  handlers = monitors_grows c.add.new.self (handler_stacks old.judge) (handler_stacks c.in_ok-judge.judge) (c.args.event ∷ events)
-      (c.in_ok-add.ensures.ok events told.judge told.handlers) c.in_ok-judge.ensures.stacks;
-  threads = c.in_ok-threads.ensures events told.threads;
-  processes = c.in_ok-processes.ensures events told.processes;
+  judge = c.in_ok-tables.ensures.told events told.judge;
+  handlers = monitors_grows c.add.new.self (handler_stacks old.judge) (handler_stacks c.in_ok-tables.tables.judge) (c.args.event ∷ events)
+      (c.in_ok-add.ensures.ok events told.judge told.handlers) c.in_ok-tables.ensures.stacks;
+  threads = c.in_ok-tables.ensures.threads events told.threads;
+  processes = c.in_ok-tables.ensures.processes events told.processes;
   keys = c.in_ok-add-2.ensures.ok events told.keys;
 }
