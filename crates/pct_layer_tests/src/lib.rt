@@ -1,6 +1,6 @@
 //! The tests of the crates below pct_command that no clause and no case of pct_cases can stand for: what streams of std answer, in
-//! which order stack slots are handed out, and the calls that the engine does not make yet. They stand in a crate of their own, since
-//! the tests of a crate prove it a second time.
+//! which order stack slots are handed out, and what the table of a child process has after one call. They stand in a crate of their own,
+//! since the tests of a crate prove it a second time.
 #![tactic(auto)]
 
 #[cfg(test)]

@@ -1,5 +1,5 @@
-//! What a child process takes over of its parent's tables, and the words of a frame. The engine does not make these calls yet, so
-//! that no run shows whether their definitions are the intended ones.
+//! What a child process takes over of its parent's tables, and the words of a frame. A run shows them only by what the child does
+//! later.
 
 use pct_keys::Keys;
 use pct_threads::Threads;
