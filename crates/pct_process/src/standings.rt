@@ -136,6 +136,7 @@ impl Standings {
     }
 
     /// Writes how the thread on a slot, which must be below 64, stands, and whether a thread holds the slot that has not ended.
+    #[inline]
     pub fn put(&mut self, slot: u32, standing: Standing, unfinished: bool)
         requires { slot < 64 }
         ensures { self.new ≡ with_standing slot standing unfinished self.old }

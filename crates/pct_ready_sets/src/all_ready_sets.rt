@@ -79,6 +79,7 @@ impl AllReadySets {
 
     /// The slots become stale that a transition of the thread with an id touches, in processes with 1 to 64 slots on the first `live`
     /// places.
+    #[inline]
     pub fn mark(&mut self, live: usize, slots: u32, tid: u32, transition: &Transition)
         requires some { 1 ≤ slots }
         requires few { slots ≤ MAX_SLOTS }
@@ -92,6 +93,7 @@ impl AllReadySets {
     }
 
     /// Each slot becomes stale: the processes move to other places.
+    #[inline]
     pub fn mark_all(&mut self)
         ensures { self.new ≡ map all_stale self.old }
     {
@@ -103,6 +105,7 @@ impl AllReadySets {
 }
 
 // These slots become stale on the first `live` places.
+#[inline]
 fn mark_places(sets: &mut Vec<ReadySets>, live: usize, touched: &SlotSet)
     ensures { (i : ℕ) → i < live → slice_get sets.new.items i ≡ option_map (with_stale touched.now) (slice_get sets.old.items i) }
 {

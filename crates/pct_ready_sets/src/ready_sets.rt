@@ -123,6 +123,7 @@ impl ReadySets {
     }
 
     /// These slots become stale.
+    #[inline]
     pub fn mark(&mut self, slots: &SlotSet)
         ensures { self.new ≡ with_stale slots.now self.old }
     {
@@ -130,6 +131,7 @@ impl ReadySets {
     }
 
     /// Each slot becomes stale.
+    #[inline]
     pub fn mark_all(&mut self)
         ensures { self.new ≡ all_stale self.old }
     {

@@ -12,6 +12,7 @@ use pct_threads::slot_of;
 
 /// The slots whose threads can have a choice under another condition after a transition of the thread with an id, in a process with 1 to
 /// 64 slots: that of the thread itself, that of a thread that it creates, and those of the threads that it changes.
+#[inline]
 pub(crate) fn touched_slots(slots: u32, tid: u32, transition: &Transition) -> SlotSet
     requires some { 1 ≤ slots }
     requires few { slots ≤ MAX_SLOTS }
@@ -23,6 +24,7 @@ pub(crate) fn touched_slots(slots: u32, tid: u32, transition: &Transition) -> Sl
 }
 
 // The slots of the threads that an action names.
+#[inline]
 fn named_slots(slots: u32, named: Option<NamedAction>) -> SlotSet
     requires some { 1 ≤ slots }
     requires few { slots ≤ MAX_SLOTS }
@@ -41,6 +43,7 @@ fn named_slots(slots: u32, named: Option<NamedAction>) -> SlotSet
 }
 
 // The slot of the thread that is created, if one is.
+#[inline]
 fn created_slots(slots: u32, created: Option<NewThread>) -> SlotSet
     requires some { 1 ≤ slots }
     requires few { slots ≤ MAX_SLOTS }

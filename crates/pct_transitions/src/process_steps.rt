@@ -28,6 +28,7 @@ use std::sync::ledger::{Blank, Ledger};
 // ---- choices
 
 /// Whether the thread on a slot has a choice.
+#[inline]
 pub fn has_choice(around: Surroundings, process: &ProcessState, slot: u32) -> bool
     requires { is_some (thread_on_slot process.now.slots slot) ≡ true }
     ensures { (t : Thread) → thread_on_slot process.now.slots slot ≡ Some t → result ≡ is_ready_in around.entry.program.now.script (has_timeouts around.entry.program.now.config.format) (length process.now.slots) (other_processes around.entry.family) (with_data process.now) t }
@@ -69,6 +70,7 @@ pub fn choice_by(
 }
 
 /// The same, and writes what the thread does by the choice to `transition`. The record of the thread is read once.
+#[inline]
 pub fn transition_by_number<L: Ledger>(
     around: Surroundings,
     process: &ProcessState,
@@ -120,6 +122,7 @@ pub fn choice_at(
 
 /// Whether a choice of the thread on a slot is offered. If it is, what the thread does by it is written to `transition`. The record of
 /// the thread is read once.
+#[inline]
 pub fn transition_if_offered<L: Ledger>(
     around: Surroundings,
     process: &ProcessState,

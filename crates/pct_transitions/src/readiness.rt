@@ -85,6 +85,7 @@ pub fn ready_when<L: Ledger>(
 }
 
 /// Whether a condition on which a thread of a process has a choice holds.
+#[inline]
 pub fn is_met(around: Surroundings, process: &ProcessState, when: ReadyWhen) -> bool
     ensures { (tid : ℕ) → result ≡ is_met process.now.shared (environment_in (has_timeouts around.entry.program.now.config.format) (length process.now.slots) (other_processes around.entry.family) process.now.slots tid) when }
 {
@@ -103,6 +104,7 @@ pub fn is_met(around: Surroundings, process: &ProcessState, when: ReadyWhen) -> 
 // an owner, and at pthread_once, while the control is busy, unless it may act upon a request at any time, or its process may not execute
 // the call, which then is a stop.
 #[tactic(auto, unfolding(crate::specs::Readiness::running_when))]
+#[inline]
 fn running_when(restricted: bool, cancel: &Cancel, at: &At) -> ReadyWhen
     ensures { result ≡ running_when restricted cancel.now.state cancel.now.mode at.now.frame at.now.statement.now }
 {
@@ -120,6 +122,7 @@ fn running_when(restricted: bool, cancel: &Cancel, at: &At) -> ReadyWhen
 }
 
 // Whether a process that is restricted or not may not execute pthread_mutex_lock and pthread_once in a frame of this kind.
+#[inline]
 fn is_call_forbidden(restricted: bool, kind: FrameKind) -> bool
     ensures { result ≡ (restricted && not (is_fork_kind kind)) }
 {
@@ -127,6 +130,7 @@ fn is_call_forbidden(restricted: bool, kind: FrameKind) -> bool
 }
 
 // Now, if the test holds, and else under this condition.
+#[inline]
 fn now_or(test: bool, when: ReadyWhen) -> ReadyWhen
     ensures { result ≡ now_or test when }
 {
@@ -134,6 +138,7 @@ fn now_or(test: bool, when: ReadyWhen) -> ReadyWhen
 }
 
 // Whether a thread may still act upon a request after it was unblocked on a condition variable by this cause.
+#[inline]
 fn leaves_acts(cause: Cause) -> bool
     ensures { result ≡ leaves_acts cause }
 {
