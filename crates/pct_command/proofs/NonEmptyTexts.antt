@@ -3,7 +3,7 @@ use Rattle.pct_names.proofs.Names.{◌<◌, [], arith, checks, first_fault, firs
 use Rattle.pct_names.proofs.Names.{nesting_in, no_main, None, none-some, not_plain, parsed_lines, refl, return_in_push, Some, spelled_lines}
 use Rattle.pct_names.proofs.Names.{spelling, split_sections, suc, sym, take, too_many, unknown_name, zero, ℕ, ◌∙◌, ◌∷◌, ◌≡◌}
 use Rattle.pct_model.specs.declared.refusal.ParseWhy.TheVariants as fault
-use Rattle.pct_script.specs.Fault.{NeedsMemory}
+use Rattle.pct_script_lines.specs.Fault.{NeedsMemory}
 
 -- an empty text has no line that spells something
 empty_spells_nothing : spelled_lines [] ≡ []

@@ -20,7 +20,7 @@ use Rattle.pct_tallies.specs.Seeds.{first_seeds}
 use Rattle.pct_sample.specs.FirstSeeds.{AreFirstSeeds}
 use Rattle.pct_sample.specs.Samples.{TallyOf}
 use Rattle.pct_tallies.specs.TallyTexts.{tally_lines}
-use Rattle.pct_shared.specs.Schedules.{WorkersSchedule}
+use Rattle.pct_workers.specs.Schedules.{WorkersSchedule}
 use Rattle.pct_command.specs.declared.answers.Answer.TheVariants as answer
 use Rattle.pct_command.specs.declared.words.Job.{Job}
 use Rattle.pct_command.specs.declared.words.Job.TheVariants.{Run as run_job, Replay, Check, Points, Demo, Sample, Expect, Audit}

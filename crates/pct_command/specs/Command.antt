@@ -26,7 +26,7 @@ use Rattle.pct_tallies.specs.Seeds.{first_seeds}
 use Rattle.pct_tallies.specs.TallyTexts.{tally_lines}
 use Rattle.pct_sample.specs.FirstSeeds.{AreFirstSeeds}
 use Rattle.pct_sample.specs.Samples.{TallyOf}
-use Rattle.pct_shared.specs.Schedules.{WorkersSchedule}
+use Rattle.pct_workers.specs.Schedules.{WorkersSchedule}
 use Rattle.pct_command.specs.declared.status.Status.{Status}
 use Rattle.pct_command.specs.declared.status.Status.TheVariants as status
 use Rattle.pct_command.specs.declared.words.Job.{Job}

@@ -15,8 +15,9 @@ use pct_io::{Gate, NoMemory};
 use pct_judgement::judge_input;
 use pct_model::Script;
 use pct_report_audit::audit_report;
-use pct_script::{ParseFault, parse};
-use pct_shared::Runtime;
+use pct_script::parse;
+use pct_script_lines::ParseFault;
+use pct_workers::Runtime;
 use std::thread::Threads;
 
 /// The answer of a job to a text. `NoMemory` comes only with a text that is not empty.

@@ -18,7 +18,7 @@ use crate::status::Status;
 use crate::words::{Job, Usage, read_words};
 use pct_io::{Failed, Gate, NoMemory, ReadEnd, Sink, Source, read_all};
 use pct_model::MAX_INPUT;
-use pct_shared::Runtime;
+use pct_workers::Runtime;
 use std::alloc::Global;
 use std::thread::Threads;
 

@@ -10,7 +10,7 @@ use pct_audit_laws::reports_of_runs_pass;
 use pct_engine::Engine;
 use pct_io::{Gate, NoMemory};
 use pct_model::{Config, RunOptions, Script, format_of};
-use pct_shared::{Runtime, run_shared};
+use pct_workers::{Runtime, run_shared};
 use std::thread::Threads;
 
 /// The answer of `run` with these options to a script. The call of `reports_of_runs_pass` does nothing: its contract is a theorem.

@@ -9,8 +9,8 @@ use crate::answers::Answer;
 use pct_io::{Gate, NoMemory};
 use pct_model::Script;
 use pct_sample::sample;
-use pct_shared::Runtime;
 use pct_tallies::Seeds;
+use pct_workers::Runtime;
 use std::thread::Threads;
 
 /// The answer of `sample` with this number of seeds to a script. No gate is called.

@@ -5,8 +5,9 @@ use pct_command::command;
 use pct_engine::Engine;
 use pct_io::{Gate, MemSink, MemSource};
 use pct_model::Config;
-use pct_shared::{Shared, run_workers};
+use pct_shared::Shared;
 use pct_vectors::generate;
+use pct_workers::run_workers;
 use std::sync::atomic::{AtomicU64, Ordering};
 use std::test::Fail;
 

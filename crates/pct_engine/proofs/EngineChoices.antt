@@ -8,7 +8,7 @@ use Rattle.pct_engine_laws.proofs.ChosenSeen.{chosen_is_seen}
 use Rattle.pct_engine_laws.proofs.LongerRuns.{same_run, run_parts}
 use Rattle.pct_engine_laws.proofs.OpenRuns.{open_left, goes_on_while_open}
 use Rattle.pct_engine_laws.proofs.VerdictSeen.{verdict_is_seen}
-use Rattle.pct_transitions.specs.Programs.{ProgramValue}
+use Rattle.pct_step_context.specs.Programs.{ProgramValue}
 use Rattle.pct_machine.specs.MachineSteps.{legal_transition}
 use Rattle.pct_machine.proofs.ConfigLimits.{slots_within}
 use Rattle.pct_engine.specs.Traces.{TraceValue}

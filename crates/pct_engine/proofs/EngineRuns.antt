@@ -7,7 +7,7 @@ use Rattle.pct_engine_laws.specs.SeenSteps.{seen_transition}
 use Rattle.pct_engine_laws.proofs.AfterSeen.{after_is_seen}
 use Rattle.pct_engine_laws.proofs.LongerRuns.{run_parts, run_none, run_more, run_after, run_step-is}
 use Rattle.pct_engine_laws.proofs.StepSeen.{successor_of, may_step, step_is_seen}
-use Rattle.pct_transitions.specs.Programs.{ProgramValue}
+use Rattle.pct_step_context.specs.Programs.{ProgramValue}
 use Rattle.pct_machine.specs.MachineSteps.{legal_transition}
 use Rattle.pct_machine.proofs.ConfigLimits.{slots_within}
 use Rattle.pct_engine.specs.Traces.{TraceValue}

@@ -13,7 +13,7 @@ use Rattle.pct_engine_laws.proofs.PlacedThreads.{HoldsSlot, processes_are_placed
 use Rattle.pct_engine_laws.proofs.RunNumbers.{run_limited}
 use Rattle.pct_ending_laws.proofs.KeptStates.{every_state_is_kept}
 use Rattle.pct_actions.specs.ProcessChanges.{IsOnSlot}
-use Rattle.pct_transitions.specs.Programs.{ProgramValue}
+use Rattle.pct_step_context.specs.Programs.{ProgramValue}
 use Rattle.pct_machine.specs.ProcessSteps.{EachCanStep, AllCanStep}
 use Rattle.pct_machine.proofs.ConfigLimits.{slots_within}
 use Rattle.pct_engine.specs.Traces.{TraceValue}

@@ -19,7 +19,7 @@ use Rattle.pct_model.specs.Run.{Run, run, verdict_of}
 use Rattle.pct_stack_laws.specs.StackLaw.{StackLaw}
 use Rattle.pct_engine_laws.specs.Seen.{Seen, seen}
 use Rattle.pct_engine_laws.specs.RunLaws.{IsLegalWhileOpen}
-use Rattle.pct_transitions.specs.Programs.{ProgramValue}
+use Rattle.pct_step_context.specs.Programs.{ProgramValue}
 use Rattle.pct_engine.specs.Traces.{TraceValue}
 
 -- the value of an engine: a script, a configuration, and the entries of the run so far

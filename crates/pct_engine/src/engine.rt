@@ -9,11 +9,12 @@ ghost use Rattle.pct_ready_sets.specs.ReadyConditions.{FollowAll};
 use crate::planned_run::PlannedRun;
 use crate::trace::Trace;
 use pct_io::NoMemory;
-use pct_machine::{Draw, Machine, ProcessView};
+use pct_machine::Machine;
 use pct_model::{Config, Entry, Event, Script, Transition, Verdict};
+use pct_place::{Draw, ProcessView};
 use pct_ready_sets::AllReadySets;
+use pct_step_context::Program;
 use pct_threads::Steps;
-use pct_transitions::Program;
 use std::alloc::Global;
 use std::marker::Model;
 use std::sync::ledger::Ledger;
@@ -58,7 +59,7 @@ impl Engine {
     ghost use Rattle.pct_model.specs.declared.limits.TheConstants.{MAX_PROCESSES, MAX_WORKER};
     ghost use Rattle.pct_model.specs.Run.{Run, is_config, verdict_of};
     ghost use Rattle.pct_engine_laws.specs.Seen.{seen};
-    ghost use Rattle.pct_machine.specs.ShownProcesses.{ShowsIfSome};
+    ghost use Rattle.pct_place.specs.ShownProcesses.{ShowsIfSome};
     ghost use Rattle.pct_engine.specs.EngineStates.{IsRunOf, IsRunWith, IsAllowed, IsChoice, KeepsLaws, woken_by};
 
     /// The engine of the run without entries. It takes the memory of the whole run: `budget` entries, three events for each,

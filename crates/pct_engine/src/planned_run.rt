@@ -2,12 +2,13 @@
 
 use crate::engine::{Engine, NotLegal, Workspace, step_with};
 use crate::trace::Trace;
+use pct_ending_calls::transitions::no_change;
 use pct_io::NoMemory;
 use pct_machine::Machine;
 use pct_model::{Config, Entry, Script};
 use pct_ready_sets::AllReadySets;
+use pct_step_context::Program;
 use pct_threads::Steps;
-use pct_transitions::{Program, no_change};
 use std::alloc::Global;
 use std::marker::Model;
 use std::sync::ledger::Ledger;

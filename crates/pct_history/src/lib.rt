@@ -6,9 +6,8 @@
 mod replay_fault;
 mod replaying;
 
-pub use pct_schedule::{
-    Entries, ScheduleFault, ScheduleWhy, read_prefix, read_schedule, split_replay, write_schedule,
-};
+pub use pct_schedule::{ScheduleFault, ScheduleWhy, write_schedule};
 pub use pct_schedule_laws::{replay_inputs_exist, reports_are_read_back};
+pub use pct_schedule_reader::{Entries, read_prefix, read_schedule, split_replay};
 pub use replay_fault::ReplayFault;
 pub use replaying::{follow, replay};

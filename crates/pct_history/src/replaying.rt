@@ -9,7 +9,7 @@ use crate::replay_fault::ReplayFault;
 use pct_engine::{Engine, NotLegal, PlannedRun};
 use pct_io::NoMemory;
 use pct_model::{Config, Script};
-use pct_schedule::Entries;
+use pct_schedule_reader::Entries;
 use pct_threads::Steps;
 use std::alloc::Global;
 use std::marker::Brand;

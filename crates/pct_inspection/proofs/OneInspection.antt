@@ -4,7 +4,7 @@ use Rattle.pct_names.proofs.Names.{nat_lt, None, none-some, Ok, Option, option_a
 use Rattle.pct_names.proofs.Names.{Run, run, same_Some, Schedule, Script, Some, some_pair_parts, Spells, subst, sym, text_of, true, verdict_of, ℕ, ◌∙◌, ◌≡◌, ◌≤◌}
 use Rattle.std.proofs.lemmas.Bool.{lt-ltb, true≢false}
 use Rattle.pct_grammar.proofs.Scripts.{spelled_is_faultless, spells_one_script}
-use Rattle.pct_script.specs.StatementLines.{statement_lines}
+use Rattle.pct_script_lines.specs.StatementLines.{statement_lines}
 use Rattle.pct_scheduled_run.specs.Streams.{draws, stream_of}
 use Rattle.pct_scheduled_run.proofs.OneSchedule.{continuation_is_one}
 use Rattle.pct_history.specs.Replays.{followed}

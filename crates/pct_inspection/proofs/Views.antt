@@ -1,8 +1,8 @@
 -- Views are outcomes.
 use Rattle.pct_names.proofs.Names.{◌++◌, ap, code_of_verdict, Config, Entry, Err, IfOk, inl, inr, List, None, Ok, Option, refl, Result}
 use Rattle.pct_names.proofs.Names.{Run, run, Script, Some, subst, Verdict, ℕ, ◌∙◌, ◌≡◌, ◌⊎◌}
-use Rattle.pct_script.specs.StatementLines.{statement_lines}
-use Rattle.pct_script.proofs.StatementSpellings.{lines_spell}
+use Rattle.pct_script_lines.specs.StatementLines.{statement_lines}
+use Rattle.pct_script_lines.proofs.StatementSpellings.{lines_spell}
 use Rattle.pct_command.specs.Answer.{status_of_verdict}
 use Rattle.pct_command.specs.Status.{code_of}
 use Rattle.pct_command.proofs.Outcomes.{code-is}

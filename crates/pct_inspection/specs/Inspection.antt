@@ -25,7 +25,7 @@ use Rattle.pct_report_reader.specs.Reading.{report_in}
 use Rattle.pct_laws.specs.Kept.{Kept}
 use Rattle.pct_laws.specs.Laws.{Laws}
 use Rattle.pct_schedule.specs.Prefix.{prefix_of}
-use Rattle.pct_script.specs.StatementLines.{statement_lines, line_at, SpellsStatement}
+use Rattle.pct_script_lines.specs.StatementLines.{statement_lines, line_at, SpellsStatement}
 use Rattle.pct_view_laws.specs.Listed.{ListedThread, listed_threads, AreLegalEntries, IsBlockedIfWaiting}
 use Rattle.pct_view_laws.specs.TracedSteps.{IsTraceOf, steps_of}
 use Rattle.pct_view_texts.specs.Choices.{choices_text}

@@ -17,7 +17,8 @@ use pct_command::Refusal;
 use pct_history::split_replay;
 use pct_io::NoMemory;
 use pct_lanes::Selection;
-use pct_script::{ParseFault, parse};
+use pct_script::parse;
+use pct_script_lines::ParseFault;
 use std::thread::Threads;
 
 /// The answer to an input. `NoMemory` comes only with an input that is not empty.

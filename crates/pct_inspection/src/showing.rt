@@ -20,7 +20,7 @@ use pct_history::{Entries, ScheduleFault, follow, read_prefix};
 use pct_io::{Failed, NoMemory};
 use pct_lanes::{Selection, lanes, picture};
 use pct_model::{Config, Entry, Script, Verdict, format_of};
-use pct_script::{StatementLines, statement_lines};
+use pct_script_lines::{StatementLines, statement_lines};
 use pct_view_texts::{TextBuffer, TracedSteps, choices_text, states_text, trace_text};
 use std::alloc::Global;
 

@@ -8,7 +8,7 @@ ghost use Rattle.pct_model.specs.declared.limits.TheConstants.{MAX_INPUT};
 use pct_expect::{ExpectFault, ExpectWhy, Expects, Judged, Verdicts, judge, read_expect};
 use pct_io::NoMemory;
 use pct_report_reader::{ReportFault, ReportWhy, read_report};
-use pct_schedule::split_replay;
+use pct_schedule_reader::split_replay;
 use std::alloc::Global;
 
 /// What `expect` answers.

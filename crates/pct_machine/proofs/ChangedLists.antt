@@ -8,8 +8,9 @@ use Rattle.pct_model.specs.declared.transition.ProcessAction.TheVariants as proc
 use Rattle.pct_engine_laws.specs.Seen.{SeenProcess, own_kept, other_kept, own_process_seen, other_process_seen, is_live_seen, child_seen_by}
 use Rattle.pct_engine_laws.specs.Seen.{children_seen, process_seen, processes_kept, seen_after}
 use Rattle.pct_engine_laws.proofs.ListFacts.{flat_map_agree}
+use Rattle.pct_place.specs.ProcessSteps.{process_changed}
 use Rattle.pct_machine.specs.Places.{ProcessList}
-use Rattle.pct_machine.specs.ListChanges.{process_moved, list_moved, process_changed, list_changed, seen_finished}
+use Rattle.pct_machine.specs.ListChanges.{process_moved, list_moved, list_changed, seen_finished}
 
 -- what is kept of a process after a change, if there is one
 abbrev kept_by : ℕ → Option ProcessAction → SeenProcess → List SeenProcess

@@ -3,8 +3,8 @@ use Rattle.pct_names.proofs.Names.{◌&&◌, ◌++◌, ◌<◌, [], arith, Bool,
 use Rattle.pct_names.proofs.Names.{ProcessAction, refl, Relative, Some, subst, sym, take, true, ℕ, ◌∙◌, ◌∷◌, ◌≡◌, ◌≤◌}
 use Rattle.pct_model.specs.declared.transition.ProcessAction.TheVariants as process_action
 use Rattle.pct_engine_laws.specs.Seen.{SeenProcess, own_kept, other_kept, is_live_seen, relative_in}
+use Rattle.pct_place.specs.ProcessSteps.{process_changed}
 use Rattle.pct_machine.specs.Places.{RiseWithin, AreSound}
-use Rattle.pct_machine.specs.ListChanges.{process_changed}
 
 -- a process, or nothing, with the id of another one
 abbrev KeepsId : SeenProcess → List SeenProcess → Type 0

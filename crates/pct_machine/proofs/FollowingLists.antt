@@ -3,8 +3,9 @@ use Rattle.pct_names.proofs.Names.{◌+◌, ◌<◌, ap, arith, Bool, cases_eq, 
 use Rattle.pct_names.proofs.Names.{Script, slice_get, slice_get-map, slice_get_within, Some, subst, sym, Transition, true, ℕ, ◌∙◌, ◌≡◌, ◌≢◌}
 use Rattle.pct_set.specs.Slots.{slots_where}
 use Rattle.pct_engine_laws.specs.Seen.{SeenProcess, process_seen, is_live_seen}
+use Rattle.pct_place.specs.ProcessSteps.{CanStep}
 use Rattle.pct_machine.specs.ListChanges.{process_moved}
-use Rattle.pct_machine.specs.ProcessSteps.{CanStep, EachCanStep}
+use Rattle.pct_machine.specs.ProcessSteps.{EachCanStep}
 use Rattle.pct_ready_sets.specs.ReadyConditions.{AreFresh, Follows, FollowsAt, FollowAll, IsFreshAt, touches}
 use Rattle.pct_ready_sets.specs.ReadyGroups.{ReadyValue, with_stale, all_stale}
 use Rattle.pct_ready_sets.proofs.FollowingSets.{all_stale_follow, with_stale_follow, step_follow}

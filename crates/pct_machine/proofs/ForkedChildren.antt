@@ -20,8 +20,9 @@ use Rattle.pct_engine_laws.proofs.ProcessNumbers.{new_pid_is_next}
 use Rattle.pct_engine_laws.proofs.ThreadChanges.{transition_keeps}
 use Rattle.pct_actions.specs.ProcessParts.{on_threads}
 use Rattle.pct_actions.proofs.ChangedSlots.{on_slots_kept, none_leaves}
+use Rattle.pct_place.specs.ProcessSteps.{CanStep, HasThread, taken_in}
 use Rattle.pct_machine.specs.Places.{ProcessList, families}
-use Rattle.pct_machine.specs.ProcessSteps.{CanStep, AllCanStep, HasThread, taken_in}
+use Rattle.pct_machine.specs.ProcessSteps.{AllCanStep}
 use Rattle.pct_machine.specs.ListChanges.{taken_among, list_moved, process_moved, ChangeFits, ChildFits}
 use Rattle.pct_machine.proofs.LegalEntries.{found_at, test_passes}
 

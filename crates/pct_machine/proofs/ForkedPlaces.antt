@@ -5,8 +5,8 @@ use Rattle.pct_names.proofs.Names.{sym, take, take-append-add, take_all, true, z
 use Rattle.std.proofs.Common.{append-nil}
 use Rattle.std.proofs.lemmas.List.{length-take-le}
 use Rattle.pct_engine_laws.specs.Seen.{SeenProcess, is_live_seen, child_seen, relative_in}
+use Rattle.pct_place.specs.ProcessSteps.{HasThread}
 use Rattle.pct_machine.specs.Places.{ProcessList, RiseWithin, AreSound}
-use Rattle.pct_machine.specs.ProcessSteps.{HasThread}
 use Rattle.pct_machine.specs.ListChanges.{child_with, list_with_child, ChildFits}
 use Rattle.pct_machine.proofs.LegalEntries.{not_live, IsFound, found_by}
 use Rattle.pct_machine.proofs.PlacesAfter.{past, not_first}

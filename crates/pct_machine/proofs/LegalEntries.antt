@@ -8,10 +8,9 @@ use Rattle.pct_names.proofs.Names.{Some, subst, sym, take, Transition, true, ℕ
 use Rattle.std.proofs.lemmas.Bool.{eqb-true, ne_eqb, ltb-false, le-leb}
 use Rattle.pct_engine_laws.specs.Seen.{SeenProcess, Seen, is_live_seen}
 use Rattle.pct_engine_laws.specs.SeenSteps.{seen_transition}
-use Rattle.pct_machine.specs.ProcessSteps.{taken_in}
+use Rattle.pct_place.specs.ProcessSteps.{taken_in, takes_in}
 use Rattle.pct_machine.specs.Places.{ProcessList, families}
 use Rattle.pct_machine.specs.ListChanges.{taken_among}
-use Rattle.pct_machine.specs.Candidates.{takes_in}
 use Rattle.pct_machine.specs.MachineSteps.{legal_transition}
 
 -- a process with another id

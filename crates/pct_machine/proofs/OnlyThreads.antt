@@ -1,51 +1,14 @@
 -- The only thread of the only process: where it is ready, each number chooses it; where it is not, it has no choice.
-use Rattle.pct_names.proofs.Names.{◌%◌, ◌++◌, ◌<◌, [], All, Alt, ap, arith, Bool, Candidate, cond, Config, Entry, entry_for, false, false≢true, filter, get_or, has_timeouts}
-use Rattle.pct_names.proofs.Names.{IfSome, is_enabled, is_some, item_at, length, List, map, None, Option, option_and_then, option_map, option_map_or, refl, take}
-use Rattle.pct_names.proofs.Names.{Script, slice_get, Some, sym, Thread, true, ℕ, ◌∙◌, ◌∷◌, ◌≡◌, ◌≤◌}
+use Rattle.pct_names.proofs.Names.{◌%◌, ◌++◌, ◌<◌, [], Alt, ap, arith, Bool, Candidate, cond, Config, Entry, entry_for, false, false≢true, filter, get_or, has_timeouts}
+use Rattle.pct_names.proofs.Names.{is_enabled, is_some, item_at, length, List, map, None, Option, option_and_then, option_map, refl, take}
+use Rattle.pct_names.proofs.Names.{Script, slice_get, Some, sym, Thread, true, ℕ, ◌∙◌, ◌∷◌, ◌≡◌}
 use Rattle.std.proofs.Math.Nat.{mod-lt}
-use Rattle.pct_set.specs.Slots.{slots_where}
-use Rattle.pct_set.proofs.SlotLemmas.{slots_agree}
-use Rattle.pct_engine_laws.specs.Seen.{SeenProcess, SeenSlot, Seen, threads_on, family_in}
+use Rattle.pct_engine_laws.specs.Seen.{SeenProcess, Seen, family_in}
 use Rattle.pct_engine_laws.specs.SeenSteps.{candidate_in, is_ready_in, seen_chosen}
-use Rattle.pct_process.specs.ProcessViews.{thread_on_slot}
-use Rattle.pct_ready_sets.proofs.ReadySlots.{ready_on_slots}
 use Rattle.pct_machine.specs.declared.scheduler.Seat.{Seat}
-use Rattle.pct_machine.specs.Candidates.{candidates_among, candidate_on, IsSeat, IsOnlySlot, IsOnlySeat}
+use Rattle.pct_machine.specs.Candidates.{candidates_among, candidate_on, IsSeat, IsOnlySeat}
 use Rattle.pct_machine.specs.ProcessSteps.{AllCanStep}
 use Rattle.pct_machine.proofs.ReadyProcesses.{candidate_is, chosen_among}
-use Rattle.pct_machine.proofs.ReadySlots.{as_many, ready_at}
-
--- ---- one process
-
-held_by_test : (o : Option Thread) → is_some o ≡ option_map_or (λ _. true) o false
-held_by_test None = refl
-held_by_test (Some t) = refl
-
-all_kept : (ts : List Thread) → filter (λ _. true) ts ≡ ts
-all_kept [] = refl
-all_kept (t ∷ ts) = ap (λ rest. t ∷ rest) (all_kept ts)
-
--- the threads on the slots with a thread
-threads_held : (slots : List SeenSlot) (set : List ℕ) → set ≡ slots_where (λ k. is_some (thread_on_slot slots k)) → All (λ (s : SeenSlot). length s.here ≤ 1) slots → length slots ≤ 64 → map (thread_on_slot slots) set ≡ map (λ t. Some t) (threads_on slots)
-threads_held slots set is single few =
-    ap (map (thread_on_slot slots)) (is ∙ slots_agree _ _ (λ k small. held_by_test (thread_on_slot slots k)))
-    ∙ ready_on_slots (λ _. true) slots single few
-    ∙ ap (map (λ (t : Thread). Some t)) (all_kept (threads_on slots))
-
--- the first slot with a thread is that of the only thread, if there is one such slot
-pub first_is_only : (p : SeenProcess) (set : List ℕ) → set ≡ slots_where (λ k. is_some (thread_on_slot p.slots k)) → All (λ (s : SeenSlot). length s.here ≤ 1) p.slots → length p.slots ≤ 64 → is_some p.ended ≡ false → length set ≡ 1 → (slot : Option ℕ) → slot ≡ slice_get set 0 → IfSome slot (IsOnlySlot p)
-first_is_only p set is single few live one None at = tt
-first_is_only p set is single few live one (Some slot) at = by (threads_on p.slots) refl where
-  are : map (thread_on_slot p.slots) set ≡ map (λ t. Some t) (threads_on p.slots)
-  are = threads_held p.slots set is single few
-
-  count : length (threads_on p.slots) ≡ 1
-  count = sym (as_many p.slots set (threads_on p.slots) are) ∙ one
-
-  by : (ts : List Thread) → threads_on p.slots ≡ ts → IsOnlySlot p slot
-  by [] none = absurd (omega (arith, count, ap length none))
-  by (t ∷ []) is_one = record { live = live; thread = t; held = (ready_at p.slots set (threads_on p.slots) are 0 (Some slot) at).0 ∙ ap (λ (ts : List Thread). slice_get ts 0) is_one; single = is_one }
-  by (t ∷ u ∷ rest) several = absurd (omega (arith, count, ap length several))
 
 -- ---- the only process
 

@@ -6,10 +6,11 @@ use Rattle.pct_names.proofs.Names.{None, not, Option, slice_get_within}
 use Rattle.std.proofs.lemmas.Bool.{eq-eqb}
 use Rattle.std.proofs.lemmas.List.{length-set}
 use Rattle.pct_engine_laws.specs.Seen.{SeenProcess, process_seen, is_live_seen, relative_in}
+use Rattle.pct_place.specs.ProcessSteps.{process_after_entry}
 use Rattle.pct_machine.specs.declared.scheduler.Seat.{Seat}
 use Rattle.pct_machine.specs.Candidates.{IsSeat}
 use Rattle.pct_machine.specs.Places.{ProcessList, RiseWithin, AreSound}
-use Rattle.pct_machine.specs.ListChanges.{process_moved, list_moved, process_after_entry, list_after_entry}
+use Rattle.pct_machine.specs.ListChanges.{process_moved, list_moved, list_after_entry}
 use Rattle.pct_machine.proofs.LegalEntries.{not_live, named, IsFound}
 
 -- ---- ids that rise

@@ -10,6 +10,7 @@ use Rattle.pct_model.specs.declared.stop.Verdict.TheVariants as verdict
 use Rattle.pct_engine_laws.specs.Seen.{SeenProcess, Seen, threads_on, family_in}
 use Rattle.pct_engine_laws.specs.SeenSteps.{is_ready_in, ready_in, candidate_in, has_ready_in, seen_candidates, seen_chosen, seen_transition, seen_verdict, seen_verdict_by}
 use Rattle.pct_process.specs.ProcessViews.{thread_on_slot}
+use Rattle.pct_place.proofs.ReadySlots.{as_many, ready_at}
 use Rattle.pct_machine.specs.declared.scheduler.Pick.{Pick}
 use Rattle.pct_machine.specs.declared.scheduler.Pick.TheVariants as pick
 use Rattle.pct_machine.specs.declared.scheduler.Seat.{Seat}
@@ -18,7 +19,6 @@ use Rattle.pct_machine.specs.MachineSteps.{legal_transition}
 use Rattle.pct_machine.specs.Candidates.{Picked, Here, Before, candidates_of, candidates_among, candidate_on, pick_after, picked, IfHere, IsSeat}
 use Rattle.pct_machine.proofs.LegalEntries.{admitted}
 use Rattle.pct_machine.proofs.Picks.{among, none_here, one_before}
-use Rattle.pct_machine.proofs.ReadySlots.{as_many, ready_at}
 
 -- ---- one process
 

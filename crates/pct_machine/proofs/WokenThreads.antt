@@ -3,7 +3,7 @@ use Rattle.pct_names.proofs.Names.{◌≡◌, ℕ, Bool, true, false, cond, List
 use Rattle.std.specs.Option.{option_map_or}
 use Rattle.pct_engine_laws.specs.Seen.{SeenProcess, is_live_seen}
 use Rattle.pct_actions.specs.ProcessChanges.{woken}
-use Rattle.pct_machine.specs.ProcessSteps.{some_if}
+use Rattle.pct_place.specs.ProcessSteps.{some_if}
 use Rattle.pct_machine.specs.MachineSteps.{woken_in}
 
 -- of the process that is found by its id

@@ -1,18 +1,15 @@
 -- The choice of the scheduler, of one process after the other.
-use Rattle.std.specs.Prelude.{◌≡◌, ℕ, ◌+◌, ◌-◌, ◌%◌, Bool, true, false, ◌&&◌, if◌then◌else◌, List, [], ◌∷◌, length, map, flat_map, Option, Some, None, is_some, nat_lt, slice_get, option_map, option_and_then}
+use Rattle.std.specs.Prelude.{◌≡◌, ℕ, ◌+◌, ◌-◌, ◌%◌, Bool, true, false, if◌then◌else◌, List, [], ◌∷◌, length, map, flat_map, Option, Some, None, is_some, nat_lt, slice_get, option_map, option_and_then}
 use Rattle.pct_model.specs.declared.script.Script.{Script}
-use Rattle.pct_model.specs.declared.schedule.Config.{Config}
-use Rattle.pct_model.specs.declared.schedule.Entry.{Entry}
 use Rattle.pct_model.specs.Chosen.{Candidate}
 use Rattle.pct_model.specs.OtherProcesses.{Family}
-use Rattle.pct_model.specs.World.{Thread}
-use Rattle.pct_engine_laws.specs.Seen.{SeenProcess, is_live_seen, threads_on}
+use Rattle.pct_engine_laws.specs.Seen.{SeenProcess}
 use Rattle.pct_engine_laws.specs.SeenSteps.{ready_in, candidate_in}
 use Rattle.pct_process.specs.ProcessViews.{thread_on_slot}
+use Rattle.pct_place.specs.ProcessSteps.{IsOnlySlot}
 use Rattle.pct_machine.specs.declared.scheduler.Seat.{Seat}
 use Rattle.pct_machine.specs.declared.scheduler.Pick.{Pick}
 use Rattle.pct_machine.specs.declared.scheduler.Pick.TheVariants as pick
-use Rattle.pct_machine.specs.ProcessSteps.{taken_in}
 
 -- the threads of a process that are ready, as candidates, where the time of a wait may expire or not
 abbrev pub candidates_of : Script → Bool → Family → SeenProcess → List Candidate
@@ -42,13 +39,6 @@ pub record IsSeat (ps : List SeenProcess) (seat : Seat) : Type 0 where
   pub live : is_some process.ended ≡ false
   pub held : is_some (thread_on_slot process.slots seat.slot) ≡ true
 
--- the slot of the only thread of a process that has not ended
-pub record IsOnlySlot (p : SeenProcess) (slot : ℕ) : Type 0 where
-  pub live : is_some p.ended ≡ false
-  pub thread : Thread
-  pub held : thread_on_slot p.slots slot ≡ Some thread
-  pub single : threads_on p.slots ≡ thread ∷ []
-
 -- the seat of the only thread of the only process, which has not ended
 pub record IsOnlySeat (ps : List SeenProcess) (seat : Seat) : Type 0 where
   pub process : SeenProcess
@@ -70,7 +60,3 @@ picked script timeouts seen_by ps (pick.Before index) = Before index
 abbrev pub IfHere : Pick → (Seat → Type 0) → Type 0
 IfHere (pick.Here seat) holds = holds seat
 IfHere _ holds = Unit {0}
-
--- the process, which sees these other processes, takes the entry
-abbrev pub takes_in : Script → Config → Family → Entry → SeenProcess → Bool
-takes_in script config family e p = is_live_seen e.pid p && is_some (taken_in script config family p e)

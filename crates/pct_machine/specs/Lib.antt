@@ -3,4 +3,3 @@ pub mod Places
 pub mod ListChanges
 pub mod MachineSteps
 pub mod Candidates
-pub mod ShownProcesses

@@ -8,9 +8,9 @@ use Rattle.pct_model.specs.declared.script.Script.{Script}
 use Rattle.pct_model.specs.declared.transition.ProcessAction.{ProcessAction}
 use Rattle.pct_model.specs.declared.transition.ProcessAction.TheVariants as process_action
 use Rattle.pct_model.specs.declared.transition.Transition.{Transition}
-use Rattle.pct_engine_laws.specs.Seen.{Seen, SeenProcess, own_kept, other_kept, process_seen, is_live_seen, child_seen}
+use Rattle.pct_engine_laws.specs.Seen.{Seen, SeenProcess, process_seen, is_live_seen, child_seen}
+use Rattle.pct_place.specs.ProcessSteps.{HasThread, process_changed, taken_in}
 use Rattle.pct_machine.specs.Places.{ProcessList, families}
-use Rattle.pct_machine.specs.ProcessSteps.{HasThread, taken_in}
 
 -- ---- the step of a thread
 
@@ -26,21 +26,12 @@ process_moved slots pid tid o p = if is_live_seen pid p then process_seen slots 
 abbrev pub list_moved : (slots pid tid : ℕ) → Transition → ProcessList → ProcessList
 list_moved slots pid tid o list = record list { processes = map (process_moved slots pid tid o) list.processes }
 
--- a process after the step of the entry that was chosen for a thread of it, if one was
-abbrev pub process_after_entry : ℕ → Transition → Option Entry → SeenProcess → SeenProcess
-process_after_entry slots o None p = p
-process_after_entry slots o (Some e) p = process_seen slots e.tid o p
-
 -- all processes after the step of the entry that was chosen, if one was
 abbrev pub list_after_entry : ℕ → Transition → Option Entry → ProcessList → ProcessList
 list_after_entry slots o None list = list
 list_after_entry slots o (Some e) list = list_moved slots e.pid e.tid o list
 
 -- ---- the changes of the list
-
--- what is kept of a process after a change by a thread of process pid: it may be that process, or another one
-abbrev pub process_changed : ℕ → ProcessAction → SeenProcess → List SeenProcess
-process_changed pid c p = if is_live_seen pid p then own_kept (Some c) p else other_kept pid (Some c) p
 
 -- the child with an id of process pid, which inherits the thread with an id
 abbrev pub child_with : (pid tid child : ℕ) → List SeenProcess → List SeenProcess

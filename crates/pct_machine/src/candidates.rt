@@ -10,12 +10,12 @@ ghost use Rattle.pct_machine.specs.Places.{families};
 ghost use Rattle.pct_machine.specs.Candidates.{candidates_among, pick_after, picked, IfHere, IsSeat};
 ghost use Rattle.pct_ready_sets.specs.ReadyConditions.{FollowsAt, FollowAll};
 
-use crate::place::Place;
 use crate::processes::Processes;
 use crate::scheduler::{Pick, Seat};
+use pct_place::Place;
 use pct_ready_sets::ReadySets;
 use pct_set::SlotSet;
-use pct_transitions::Program;
+use pct_step_context::Program;
 
 /// Whether each process has ended.
 pub(crate) fn all_ended(processes: &Processes) -> bool

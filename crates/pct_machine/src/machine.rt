@@ -1,14 +1,14 @@
 //! The state of a run.
 
 use crate::candidates::{all_ended, any_ready, pick};
-use crate::process_view::ProcessView;
 use crate::processes::Processes;
-use crate::scheduler::{Draw, Pick, Seat};
+use crate::scheduler::{Pick, Seat};
 use pct_io::NoMemory;
 use pct_model::{Entry, MAX_WORKER, Script, Transition, Verdict, Why};
+use pct_place::{Draw, ProcessView};
 use pct_ready_sets::AllReadySets;
+use pct_step_context::Program;
 use pct_threads::Steps;
-use pct_transitions::Program;
 use std::alloc::Global;
 use std::marker::{Brand, Model};
 use std::sync::ledger::{Blank, Ledger};
@@ -37,13 +37,14 @@ impl Machine {
     ghost use Rattle.pct_model.specs.World.{opening};
     ghost use Rattle.pct_engine_laws.specs.Seen.{seen, seen_after, family_in};
     ghost use Rattle.pct_engine_laws.specs.SeenSteps.{seen_chosen, seen_verdict};
+    ghost use Rattle.pct_place.specs.ProcessSteps.{some_if};
+    ghost use Rattle.pct_place.specs.ShownProcesses.{ShowsIfSome};
     ghost use Rattle.pct_machine.specs.Candidates.{candidate_on, IsSeat};
     ghost use Rattle.pct_machine.specs.ListChanges.{ChangeFits, list_in, list_moved, seen_finished};
     ghost use Rattle.pct_machine.specs.Places.{ProcessList};
-    ghost use Rattle.pct_machine.specs.ProcessSteps.{AllCanStep, EachCanStep, some_if};
+    ghost use Rattle.pct_machine.specs.ProcessSteps.{AllCanStep, EachCanStep};
     ghost use Rattle.pct_machine.specs.MachineSteps.{legal_transition, woken_in};
     ghost use Rattle.pct_model.specs.Formats.{has_timeouts};
-    ghost use Rattle.pct_machine.specs.ShownProcesses.{ShowsIfSome};
     ghost use Rattle.pct_ready_sets.specs.ReadyConditions.{AreFresh, FollowAll};
 
     /// The state before the first step, with 1 to 64 thread slots. `NoMemory` is returned if the tables of eight processes do not fit into

@@ -7,16 +7,15 @@ ghost use Rattle.pct_model.specs.OtherProcesses.{family_among};
 ghost use Rattle.pct_model.specs.World.{first_process};
 ghost use Rattle.pct_engine_laws.specs.Seen.{SeenProcess, seen_process, relative_in, child_seen};
 ghost use Rattle.pct_process.specs.FamilyViews.{other_processes};
-ghost use Rattle.pct_machine.specs.ProcessSteps.{HasThread};
-ghost use Rattle.pct_machine.specs.ListChanges.{process_changed};
+ghost use Rattle.pct_place.specs.ProcessSteps.{HasThread, process_changed};
 
-use crate::place::Place;
-use crate::scheduler::{Draw, Seat};
+use crate::scheduler::Seat;
 use pct_io::NoMemory;
 use pct_model::{Entry, MAX_PROCESSES, ProcessAction, Relative, Script, Transition};
+use pct_place::{Draw, Place};
 use pct_process::{Family, Relatives};
+use pct_step_context::{Program, Surroundings};
 use pct_threads::Steps;
-use pct_transitions::{Program, Surroundings};
 use std::alloc::Global;
 use std::marker::Model;
 use std::sync::ledger::Ledger;
@@ -52,11 +51,12 @@ impl Processes {
     ghost use Rattle.pct_model.specs.World.{first_process};
     ghost use Rattle.pct_engine_laws.specs.Seen.{seen_process, is_live_seen};
     ghost use Rattle.pct_process.specs.FamilyViews.{other_processes};
+    ghost use Rattle.pct_place.specs.ProcessSteps.{some_if, process_changed};
     ghost use Rattle.pct_machine.specs.Places.{RiseWithin, families};
     ghost use Rattle.pct_machine.specs.Candidates.{candidate_on, IsSeat, IsOnlySeat};
-    ghost use Rattle.pct_machine.specs.ProcessSteps.{AllCanStep, some_if};
+    ghost use Rattle.pct_machine.specs.ProcessSteps.{AllCanStep};
     ghost use Rattle.pct_machine.specs.MachineSteps.{woken_in};
-    ghost use Rattle.pct_machine.specs.ListChanges.{taken_among, list_moved, list_after_entry, process_changed, list_changed, list_with_child, ChildFits, ChangeFits};
+    ghost use Rattle.pct_machine.specs.ListChanges.{taken_among, list_moved, list_after_entry, list_changed, list_with_child, ChildFits, ChangeFits};
 
     /// The processes before the first step, with 1 to 64 thread slots. `NoMemory` is returned if the tables of eight processes do not fit
     /// into memory: no other call takes memory.

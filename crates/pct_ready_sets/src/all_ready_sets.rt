@@ -10,7 +10,7 @@ use pct_io::NoMemory;
 use pct_model::{MAX_PROCESSES, Transition};
 use pct_process::ProcessState;
 use pct_set::SlotSet;
-use pct_transitions::Program;
+use pct_step_context::Program;
 use std::alloc::Global;
 use std::marker::Model;
 

@@ -15,7 +15,8 @@ ghost use Rattle.pct_ready_sets.specs.ReadyGroups.{condition_on};
 use crate::ready_sets::ReadySets;
 use pct_process::ProcessState;
 use pct_set::SlotSet;
-use pct_transitions::{ReadyWhen, Surroundings, has_choice as has_choice_on, is_met as is_met_by};
+use pct_step_context::Surroundings;
+use pct_transitions::{ReadyWhen, has_choice as has_choice_on, is_met as is_met_by};
 
 /// The slots of the threads that have a choice. The threads on slots that are stale are asked one by one.
 #[inline(always)]

@@ -8,8 +8,9 @@ ghost use Rattle.pct_ready_sets.specs.ReadyConditions.{condition_of_slot, Follow
 
 use crate::ready_sets::ReadySets;
 use pct_process::ProcessState;
+use pct_step_context::Program;
 use pct_threads::Steps;
-use pct_transitions::{Program, ReadyWhen, ready_when};
+use pct_transitions::{ReadyWhen, ready_when};
 use std::marker::Brand;
 use std::sync::ledger::{Blank, Ledger};
 

@@ -10,10 +10,8 @@ ghost use Rattle.pct_model.specs.Report.{event_line, verdict_line, report_lines,
 ghost use Rattle.pct_model.specs.Run.{Run};
 ghost use Rattle.pct_engine.specs.EngineStates.{IsRunOf};
 
-use crate::event_fields::fields_of_event;
-use crate::event_lines::prepend_event;
-use crate::fields::write_words;
 use pct_engine::Engine;
+use pct_event_texts::{fields_of_event, prepend_event, write_words};
 use pct_io::{BufferedSink, Failed, Field, Sink, write_all, write_line};
 use pct_model::{Config, Entry, Event, Keyword, Script, Verdict};
 use pct_schedule::write_schedule;

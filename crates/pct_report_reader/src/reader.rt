@@ -15,7 +15,8 @@ use crate::event::{begins_schedule, begins_verdict, format_of_title, is_event, i
 use crate::fault::{ReportFault, ReportWhy};
 use pct_expect::Span;
 use pct_model::{Config, Format, Sequence};
-use pct_schedule::{ScheduleFault, read_schedule};
+use pct_schedule::ScheduleFault;
+use pct_schedule_reader::read_schedule;
 use pct_text::{first_line, strip_cr};
 use std::alloc::{AllocError, Global};
 

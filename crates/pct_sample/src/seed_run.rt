@@ -11,7 +11,7 @@ use pct_engine::Engine;
 use pct_io::NoMemory;
 use pct_model::{Config, Event, PTHREAD_CANCELED, Script, What, format_of};
 use pct_scheduled_run::{continue_run, stream_of};
-use pct_script::copy_script;
+use pct_script_lines::copy_script;
 use pct_tallies::SeedRun;
 use std::alloc::Global;
 

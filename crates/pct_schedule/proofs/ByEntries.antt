@@ -7,8 +7,8 @@ use Rattle.std.proofs.Common.{append_assoc, append-nil, length-append}
 use Rattle.pct_model.specs.declared.refusal.ScheduleWhy.TheVariants as why
 use Rattle.pct_model.specs.declared.keyword.Keyword.TheVariants as keyword
 use Rattle.pct_model.specs.Schedule.{begins, is_end}
-use Rattle.pct_schedule.specs.declared.reader.End.{End}
-use Rattle.pct_schedule.specs.declared.reader.End.TheVariants as end
+use Rattle.pct_schedule.specs.declared.end.End.{End}
+use Rattle.pct_schedule.specs.declared.end.End.TheVariants as end
 use Rattle.pct_schedule.specs.Ends.{entries_to}
 use Rattle.pct_schedule.specs.Prefix.{prefix_entries_from}
 use Rattle.pct_schedule.proofs.LineByLine.{ended, with_entry, with_header, schedule_in, entries_in_to, unended, no_line, one_line}

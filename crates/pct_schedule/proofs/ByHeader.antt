@@ -5,8 +5,8 @@ use Rattle.pct_names.proofs.Names.{◌≡◌}
 use Rattle.pct_model.specs.declared.refusal.ScheduleWhy.TheVariants as why
 use Rattle.pct_model.specs.declared.keyword.Keyword.TheVariants as keyword
 use Rattle.pct_model.specs.Schedule.{begins}
-use Rattle.pct_schedule.specs.declared.reader.End.{End}
-use Rattle.pct_schedule.specs.declared.reader.End.TheVariants as end
+use Rattle.pct_schedule.specs.declared.end.End.{End}
+use Rattle.pct_schedule.specs.declared.end.End.TheVariants as end
 use Rattle.pct_schedule.specs.Ends.{entries_to, schedule_to}
 use Rattle.pct_schedule.specs.Memory.{header_line}
 use Rattle.pct_schedule.specs.Prefix.{prefix_at, prefix_from}

@@ -1,5 +1,5 @@
 -- A number of one digit before a space.
-use Rattle.pct_names.proofs.Names.{◌+◌, ◌*◌, ◌-◌, ◌&&◌, ◌>>=◌, ap, arith, Bool, false, is_digit, List, nat_eq, nat_le, None, Option, refl, Some, sym, true, ℕ, ◌∙◌, ◌∷◌, ◌≡◌, ◌≤◌}
+use Rattle.pct_names.proofs.Names.{◌+◌, ◌*◌, ◌-◌, ◌&&◌, ◌>>=◌, ap, arith, is_digit, List, nat_le, None, Option, Some, sym, true, ℕ, ◌∙◌, ◌∷◌, ◌≡◌, ◌≤◌}
 use Rattle.std.proofs.lemmas.Bool.{and_parts, and_from, cond-true, leb-true, le-leb}
 use Rattle.pct_text.specs.FirstNumber.{split_number}
 use Rattle.pct_text.specs.Digits.{with_digit, number_until, split_number_in}

@@ -4,8 +4,8 @@ use Rattle.pct_names.proofs.Names.{nat_lt, None, Ok, Option, refl, Schedule, Som
 use Rattle.pct_model.specs.declared.refusal.ScheduleWhy.TheVariants as why
 use Rattle.pct_model.specs.declared.keyword.Keyword.TheVariants as keyword
 use Rattle.pct_model.specs.Schedule.{begins, is_end}
-use Rattle.pct_schedule.specs.declared.reader.End.{End}
-use Rattle.pct_schedule.specs.declared.reader.End.TheVariants as end
+use Rattle.pct_schedule.specs.declared.end.End.{End}
+use Rattle.pct_schedule.specs.declared.end.End.TheVariants as end
 
 -- the last line of a schedule, with the lines after it
 abbrev pub ended : ℕ → Config → List Entry → List (List ℕ) → Schedule

@@ -10,7 +10,7 @@ use Rattle.pct_model.specs.Schedule.{begins, is_end}
 use Rattle.pct_text.specs.FirstLine.{IsFirstLine}
 use Rattle.pct_text.proofs.Lines.{lines_of-nil}
 use Rattle.pct_text.proofs.FirstLines.{has_a_line}
-use Rattle.pct_schedule.specs.declared.reader.End.{End}
+use Rattle.pct_schedule.specs.declared.end.End.{End}
 use Rattle.pct_schedule.specs.declared.fault.ScheduleFault.{ScheduleFault}
 use Rattle.pct_schedule.specs.declared.fault.ScheduleFault.TheVariants as fault
 use Rattle.pct_schedule.specs.Gives.{Fails, Refuses}

@@ -10,8 +10,8 @@ use Rattle.pct_model.specs.declared.schedule.Alt.TheVariants as alt
 use Rattle.pct_model.specs.declared.refusal.ScheduleWhy.TheVariants as why
 use Rattle.pct_model.specs.declared.keyword.Keyword.TheVariants as keyword
 use Rattle.pct_model.specs.Schedule.{begins, is_end}
-use Rattle.pct_schedule.specs.declared.reader.End.{End}
-use Rattle.pct_schedule.specs.declared.reader.End.TheVariants as end
+use Rattle.pct_schedule.specs.declared.end.End.{End}
+use Rattle.pct_schedule.specs.declared.end.End.TheVariants as end
 use Rattle.pct_schedule.specs.Ends.{schedule_to}
 use Rattle.pct_schedule.specs.Memory.{header_line}
 use Rattle.pct_schedule.specs.Schedules.{fits, is_choice, is_entry, IsSchedule}

@@ -4,8 +4,8 @@ use Rattle.pct_model.specs.declared.schedule.Config.{Config}
 use Rattle.pct_model.specs.declared.schedule.Entry.{Entry}
 use Rattle.pct_model.specs.Lines.{lines_of, strip_cr}
 use Rattle.pct_model.specs.Schedule.{Read, Schedule, entries_from, sched_of}
-use Rattle.pct_schedule.specs.declared.reader.End.{End}
-use Rattle.pct_schedule.specs.declared.reader.End.TheVariants as end
+use Rattle.pct_schedule.specs.declared.end.End.{End}
+use Rattle.pct_schedule.specs.declared.end.End.TheVariants as end
 use Rattle.pct_schedule.specs.Prefix.{prefix_entries_from, prefix_from}
 
 -- the entries of the lines from line n on, to this end

@@ -2,13 +2,13 @@
 use Rattle.pct_names.proofs.Names.{and_parts, ap, are_in_functions, checks, Fault, first_fault, functions_in, is_none, List, list_all}
 use Rattle.pct_names.proofs.Names.{name_twice, nesting, no_main, None, not_plain, Option, option_or, parsed_lines, refl, return_in_push}
 use Rattle.pct_names.proofs.Names.{roles, Some, spelled_lines, spelling, sym, too_many, true, unknown_name, ℕ, ◌∙◌, ◌≡◌}
-use Rattle.pct_script.specs.declared.fault.ParseFault.{ParseFault}
-use Rattle.pct_script.specs.declared.fault.ParseFault.TheVariants as fault
-use Rattle.pct_script.specs.Fault.{IsFoundBy, IsFaultOf}
+use Rattle.pct_script_lines.specs.declared.fault.ParseFault.{ParseFault}
+use Rattle.pct_script_lines.specs.declared.fault.ParseFault.TheVariants as fault
+use Rattle.pct_script_lines.specs.Fault.{IsFoundBy, IsFaultOf}
 use Rattle.pct_script.specs.Order.{early_fault, late_fault, last_fault, fault_in_order}
-use Rattle.pct_script.specs.SectionSteps.{is_ready}
+use Rattle.pct_script_lines.specs.SectionSteps.{is_ready}
 use Rattle.pct_grammar.proofs.NestingLaw.{section_nests, nesting_by_sections}
-use Rattle.pct_script.proofs.LimitsMakeReady.{are_ready}
+use Rattle.pct_script_lines.proofs.LimitsMakeReady.{are_ready}
 use Rattle.pct_grammar.proofs.ParsedFromWords.{parsed_lines_are_parsed}
 
 -- after the last check there is no fault

@@ -4,8 +4,8 @@ use Rattle.pct_names.proofs.Names.{no_main, NoMain, None, not_plain, Numbered, O
 use Rattle.pct_names.proofs.Names.{Result, return_in_push, roles, Some, spelled_lines, spelling, split_sections, too_many, unknown_name, ℕ}
 use Rattle.pct_names.proofs.Names.{◌∙◌, ◌∷◌, ◌≡◌}
 use Rattle.pct_script.proofs.CheckOrder.{both_nothing}
-use Rattle.pct_script.specs.declared.fault.ParseFault.{ParseFault}
-use Rattle.pct_script.specs.declared.fault.ParseFault.TheVariants.{NoMemory}
+use Rattle.pct_script_lines.specs.declared.fault.ParseFault.{ParseFault}
+use Rattle.pct_script_lines.specs.declared.fault.ParseFault.TheVariants.{NoMemory}
 use Rattle.pct_script.specs.Order.{early_fault, last_fault, late_fault, fault_in_order}
 
 -- the first fault, by the lines that spell something

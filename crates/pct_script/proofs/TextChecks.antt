@@ -4,15 +4,15 @@ use Rattle.pct_names.proofs.Names.{misspelled, nesting, None, Numbered, Option, 
 use Rattle.pct_names.proofs.Names.{parsed_numbered, refl, roles, same_Some, Some, spelled_lines, spelling, subst, sym, too_many, TooMany}
 use Rattle.pct_names.proofs.Names.{true, ℕ, ◌∙◌, ◌∷◌, ◌≡◌}
 use Rattle.std.specs.Prelude.{option_to_list}
-use Rattle.pct_script.specs.declared.fault.ParseFault.{ParseFault}
-use Rattle.pct_script.specs.declared.fault.ParseFault.TheVariants as fault
-use Rattle.pct_script.specs.Fault.{IsFoundBy}
+use Rattle.pct_script_lines.specs.declared.fault.ParseFault.{ParseFault}
+use Rattle.pct_script_lines.specs.declared.fault.ParseFault.TheVariants as fault
+use Rattle.pct_script_lines.specs.Fault.{IsFoundBy}
 use Rattle.pct_script.specs.Order.{early_fault}
-use Rattle.pct_script.specs.Outlines.{outlines_of}
-use Rattle.pct_script.specs.LineCounts.{none_yet, limit_in}
-use Rattle.pct_script.proofs.ParsedLines.{line_kept}
-use Rattle.pct_script.proofs.LineLimits.{limit_of_text}
-use Rattle.pct_script.proofs.SpelledLines.{fault_first, fault_later}
+use Rattle.pct_script_lines.specs.Outlines.{outlines_of}
+use Rattle.pct_script_lines.specs.LineCounts.{none_yet, limit_in}
+use Rattle.pct_script_lines.proofs.ParsedLines.{line_kept}
+use Rattle.pct_script_lines.proofs.LineLimits.{limit_of_text}
+use Rattle.pct_script_lines.proofs.TextSpelling.{fault_first, fault_later}
 use Rattle.pct_grammar.proofs.Misspelled.{spelling_or_parsed}
 
 -- no line of the text is misspelled, and these are the parsed lines

@@ -1,13 +1,2 @@
-pub mod Fault
-pub mod SpelledLines
-pub mod DeclaredNames
 pub mod PushCounts
-pub mod SectionSteps
-pub mod DeclaredBefore
-pub mod Outlines
-pub mod LineCounts
 pub mod Order
-pub mod Symbols
-pub mod UnknownNames
-pub mod StoredContents
-pub mod StatementLines

@@ -6,25 +6,21 @@ ghost use Rattle.std.specs.List.{list_all};
 ghost use Rattle.pct_model.specs.LineParsing.{spelled_lines};
 ghost use Rattle.pct_model.specs.Spelling.{spelling};
 ghost use Rattle.pct_model.specs.Sections.{are_in_functions, parsed_lines};
-ghost use Rattle.pct_script.specs.declared.fault.ParseFault.TheVariants.{NoMemory};
-ghost use Rattle.pct_script.specs.Fault.{IsFoundBy, ParsesTo, Passes};
+ghost use Rattle.pct_script_lines.specs.declared.fault.ParseFault.TheVariants.{NoMemory};
+ghost use Rattle.pct_script_lines.specs.Fault.{IsFoundBy, ParsesTo, Passes};
 ghost use Rattle.pct_script.specs.Order.{early_fault, last_fault, late_fault};
-ghost use Rattle.pct_script.specs.SectionSteps.{is_ready};
-ghost use Rattle.pct_script.specs.StoredContents.{contents_stored};
+ghost use Rattle.pct_script_lines.specs.SectionSteps.{is_ready};
+ghost use Rattle.pct_script_lines.specs.StoredContents.{contents_stored};
 ghost use Rattle.pct_grammar.specs.Resolving.{resolve_contents};
 ghost use Rattle.pct_model.specs.Checks.{no_main};
 
-use crate::duplicates::name_twice;
-use crate::fault::ParseFault;
-use crate::limits::check_limits;
-use crate::line::Line;
-use crate::nesting::check_nesting;
-use crate::plain_functions::not_plain;
 use crate::push_returns::return_in_push;
-use crate::resolve::{ScriptContents, resolve_contents};
-use crate::scan::{SpelledLines, StoredLines, first_misspelled, stored_lines};
-use crate::symbols::next_declared;
+use crate::scan::{first_misspelled, stored_lines};
 use pct_model::{Keyword, ParseWhy, SymbolKind};
+use pct_script_lines::{
+    Line, ParseFault, ScriptContents, SpelledLines, StoredLines, check_limits, check_nesting,
+    name_twice, next_declared, not_plain, resolve_contents,
+};
 use std::alloc::Global;
 
 // The result of a check that found this fault, or none.

@@ -7,18 +7,16 @@ ghost use Rattle.pct_model.specs.Checks.{first_fault};
 ghost use Rattle.pct_model.specs.Sections.{parsed_lines};
 ghost use Rattle.pct_model.specs.Spelling.{spelling};
 ghost use Rattle.pct_model.specs.Spells.{Spells};
-ghost use Rattle.pct_script.specs.declared.fault.ParseFault.TheVariants.{NoMemory};
+ghost use Rattle.pct_script_lines.specs.declared.fault.ParseFault.TheVariants.{NoMemory};
 ghost use Rattle.pct_model.specs.LineParsing.{spelled_lines};
-ghost use Rattle.pct_script.specs.Fault.{IsFaultOf, IsFoundBy, NeedsMemory, ParsesTo};
+ghost use Rattle.pct_script_lines.specs.Fault.{IsFaultOf, IsFoundBy, NeedsMemory, ParsesTo};
 ghost use Rattle.pct_script.specs.Order.{fault_in_order};
-ghost use Rattle.pct_script.specs.StoredContents.{contents_stored};
+ghost use Rattle.pct_script_lines.specs.StoredContents.{contents_stored};
 ghost use Rattle.pct_grammar.specs.Resolving.{resolve_contents};
 
 use crate::checks::{read_lines, read_text};
-use crate::fault::ParseFault;
-use crate::resolve::ScriptContents;
-use crate::scan::SpelledLines;
 use pct_model::{ParseWhy, Script};
+use pct_script_lines::{ParseFault, ScriptContents, SpelledLines};
 use std::alloc::Global;
 
 // Whether all lines of the text are blank or comments.

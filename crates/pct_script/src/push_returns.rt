@@ -5,9 +5,8 @@ ghost use Rattle.pct_model.specs.Sections.{are_in_functions};
 ghost use Rattle.pct_model.specs.Checks.{first_wrong, roles, is_push, is_pop, is_return, is_in_push, return_in_push};
 ghost use Rattle.pct_script.specs.PushCounts.{one_if};
 
-use crate::line::{Line, role_in};
-use crate::sections::next_function;
 use pct_model::{Block, ParseWhy, Role};
+use pct_script_lines::{Line, next_function, role_in};
 
 fn is_push(role: Role) -> bool
     ensures { result ≡ is_push role }

@@ -12,7 +12,7 @@ use Rattle.pct_scheduled_run.proofs.ContinuedRuns.{get_seam, get_front}
 use Rattle.pct_shared.specs.declared.view.Known.{Known}
 use Rattle.pct_shared.specs.declared.view.Opening.{Opening}
 use Rattle.pct_shared.specs.declared.view.View.{View}
-use Rattle.pct_shared.specs.declared.workers.Worker.{Worker}
+use Rattle.pct_shared.specs.declared.worker.Worker.{Worker}
 use Rattle.pct_shared.specs.Hosts.{AreAllWorkers, IsClosing, IsWorkerOf}
 use Rattle.pct_shared.specs.Passes.{SharedValue}
 use Rattle.pct_shared.specs.TurnRule.{Agrees, HasSeat, IsHome, IsKnown, IsOld, KeepsTurn, SeatView, Slot}

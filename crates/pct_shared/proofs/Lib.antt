@@ -9,9 +9,4 @@ pub mod TurnUsed
 pub mod PassTurns
 pub mod Closing
 pub mod NewWorkers
-pub mod Working
 pub mod Sent
-pub mod RisingNumbers
-pub mod LongerChoices
-pub mod LoneRuns
-pub mod WorkedRuns

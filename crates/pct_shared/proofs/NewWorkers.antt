@@ -3,7 +3,7 @@ use Rattle.pct_names.proofs.Names.{◌++◌, ◌<◌, [], ap, arith, inl, inr, l
 use Rattle.pct_names.proofs.Names.{Some, subst, suc, sym, zero, ℕ, ◌∙◌, ◌∷◌, ◌≡◌, ◌⊎◌}
 use Rattle.atomic_table.specs.Table.{Me, Splits}
 use Rattle.pct_shared.specs.declared.view.Opening.{Opening}
-use Rattle.pct_shared.specs.declared.workers.Worker.{Worker}
+use Rattle.pct_shared.specs.declared.worker.Worker.{Worker}
 use Rattle.pct_shared.specs.Hosts.{IsNewWorker}
 use Rattle.pct_shared.specs.Passes.{SharedValue}
 use Rattle.pct_shared.specs.TurnRule.{KeepsTurn, SeatView, Slot}

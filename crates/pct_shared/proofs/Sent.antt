@@ -19,7 +19,7 @@ use Rattle.pct_shared.specs.contracts.pass.Pass as Pass
 use Rattle.pct_shared.specs.contracts.pass.Pass.TheInside as inside
 use Rattle.pct_shared.specs.contracts.view.Opening as Opening
 use Rattle.pct_shared.specs.contracts.view.View as View
-use Rattle.pct_shared.specs.contracts.workers.Worker as Worker
+use Rattle.pct_shared.specs.contracts.worker.Worker as Worker
 
 slot : RattleType
 slot = Option.the_row (Box.the_row Engine.the_row Global.the_row ghosts)

@@ -3,4 +3,3 @@ pub mod TurnRule
 pub mod Passes
 pub mod TurnSteps
 pub mod Hosts
-pub mod Schedules

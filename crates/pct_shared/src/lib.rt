@@ -1,14 +1,12 @@
-//! The shared host: workers on threads of their own step one run, one at a time under a turn.
+//! The shared host: workers step one run, one at a time under a turn.
 #![tactic(auto)]
 
 mod pass;
-mod run;
 mod shared;
 mod turns;
 mod view;
-mod workers;
+mod worker;
 
 pub use pass::Pass;
-pub use run::{Runtime, run_shared};
 pub use shared::{Shared, Turn};
-pub use workers::{Worker, run_workers, work};
+pub use worker::Worker;

@@ -11,7 +11,7 @@ ghost use Rattle.pct_shared.specs.Views.{new_view, opened};
 use crate::pass::Pass;
 use crate::turns::{Chair, Desk, Gives, NextPass, Slot, Takes, TakesIn};
 use crate::view::Opening;
-use crate::workers::Worker;
+use crate::worker::Worker;
 use pct_engine::Engine;
 use pct_io::NoMemory;
 use pct_model::{Entry, Verdict};

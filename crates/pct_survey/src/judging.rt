@@ -11,7 +11,7 @@ use pct_expect::{Expects, Rule};
 use pct_io::NoMemory;
 use pct_model::{Config, Script, Sequence, Verdict};
 use pct_sample::run_again;
-use pct_script::copy_script;
+use pct_script_lines::copy_script;
 use std::alloc::Global;
 
 /// What is run under each seed, and the rules that are asked of its runs.

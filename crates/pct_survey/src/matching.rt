@@ -7,10 +7,10 @@ ghost use Rattle.pct_model.specs.EventTexts.{event_names, event_words};
 ghost use Rattle.pct_model.specs.Report.{event_line};
 
 use itoa::Buffer;
+use pct_event_texts::{Fields, fields_of_event};
 use pct_expect::Word;
 use pct_io::Field;
 use pct_model::{Event, Script, What};
-use pct_report::{Fields, fields_of_event};
 
 /// Whether a pattern matches an event of a script, whose words are those of its line in a report.
 pub(crate) fn is_match(script: &Script, event: &Event, pattern: &[Word]) -> bool

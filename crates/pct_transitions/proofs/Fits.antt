@@ -10,7 +10,7 @@ use Rattle.pct_transition_cases.proofs.TransitionCases.{Leads, past_nop, past_if
 use Rattle.pct_transition_cases.proofs.TransitionCases.{function_called, fork_handler_called, handler_pushed, handler_called, pass_begun, routine_called}
 use Rattle.pct_jumps.proofs.JumpTableFacts.{closes_inside, opens_earlier}
 use Rattle.pct_engine_laws.specs.Fitting.{TransitionFits}
-use Rattle.pct_transitions.proofs.Bodies.{few_statements, pc_within}
+use Rattle.pct_step_context.proofs.Bodies.{few_statements, pc_within}
 
 -- ---- program counters
 

@@ -13,7 +13,7 @@ use Rattle.std.proofs.lemmas.Bool.{eqb-true, true≢false}
 use Rattle.pct_model.specs.declared.schedule.Alt.TheVariants as alt
 use Rattle.pct_engine_laws.proofs.ListFacts.{any-map, any-filter, map-map}
 use Rattle.pct_keys.specs.Tables.{Table, IsSound}
-use Rattle.pct_transitions.specs.Numbers.{AreOnPlaces}
+use Rattle.pct_step_context.specs.Numbers.{AreOnPlaces}
 use Rattle.pct_transitions.proofs.ListedChoices.{swapped}
 
 -- ---- the places

@@ -8,7 +8,7 @@ use Rattle.pct_set.specs.Slots.{has_slot}
 use Rattle.pct_threads.specs.Slots.{Held, Slot, has_id}
 use Rattle.pct_threads.specs.Tables.{slot_at, held_at, is_occupied_at}
 use Rattle.pct_threads.proofs.TableLemmas.{within-occupied, occupied-test}
-use Rattle.pct_transitions.specs.OtherThreads.{id_at, ids_on}
+use Rattle.pct_step_context.specs.OtherThreads.{id_at, ids_on}
 use Rattle.pct_transitions.proofs.ListedChoices.{swapped}
 
 -- the choices that name the waiters, if there are some, are those that name the ids on their slots

@@ -1,9 +1,3 @@
-pub mod Programs
-pub mod Positions
-pub mod ThreadRecords
-pub mod Numbers
-pub mod OtherThreads
-pub mod Contexts
 pub mod Listed
 pub mod ProcessSteps
 pub mod Readiness

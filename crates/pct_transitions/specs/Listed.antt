@@ -13,7 +13,7 @@ use Rattle.pct_model.specs.ChoiceTable.{first_row, is_blocked, is_create, is_key
 use Rattle.pct_threads.specs.Slots.{Slot}
 use Rattle.pct_threads.specs.Tables.{is_occupied_at, next_id_at}
 use Rattle.pct_keys.specs.Tables.{Table, row_at}
-use Rattle.pct_transitions.specs.OtherThreads.{ids_on}
+use Rattle.pct_step_context.specs.OtherThreads.{ids_on}
 use Rattle.pct_transitions.specs.declared.choice_table.Choices.{Choices}
 use Rattle.pct_transitions.specs.declared.choice_table.Choices.TheVariants as choices
 

@@ -1,5 +1,5 @@
 -- The steps of the threads of a process, in words of the data of the process.
-use Rattle.std.specs.Prelude.{◌≡◌, ℕ, ◌+◌, ◌*◌, ◌<◌, ◌≤◌, ◌^◌, Bool, true, List, length, Some, None}
+use Rattle.std.specs.Prelude.{◌≡◌, ℕ, ◌≤◌, Bool, true, List, length, Some, None}
 use Rattle.pct_model.specs.declared.limits.TheConstants.{MAX_FRAMES}
 use Rattle.pct_model.specs.declared.script.Script.{Script}
 use Rattle.pct_model.specs.declared.schedule.Alt.{Alt}
@@ -12,17 +12,11 @@ use Rattle.pct_model.specs.OtherProcesses.{Family}
 use Rattle.pct_model.specs.World.{Thread}
 use Rattle.pct_engine_laws.specs.Seen.{SeenSlot, SeenProcess}
 use Rattle.pct_engine_laws.specs.SeenSteps.{choices_in, transition_in}
-use Rattle.pct_process.specs.ProcessViews.{ProcessData, slot_on, thread_on_slot}
-use Rattle.pct_transitions.specs.Numbers.{NextKeysFit}
+use Rattle.pct_process.specs.ProcessViews.{ProcessData, thread_on_slot}
 
 -- a process with this data: what its threads do depends on its id, its parent and its end only by the other processes that they see
 abbrev pub with_data : ProcessData → SeenProcess
 with_data d = record { pid = 1; parent = 0; ended = None; slots = d.slots; shared = d.shared }
-
--- the numbers that new threads and new keys can get fit 32 bits
-pub record NewNumbersFit (d : ProcessData) : Type 0 where
-  pub ids : (k : ℕ) → k < length d.slots → 1 + k + length d.slots * (slot_on d.slots k).made < 2 ^ 32
-  pub keys_fit : NextKeysFit d.shared.keys
 
 -- a thread that is in fork has room for the frame of a fork handler
 abbrev pub ForksHaveRoom : List SeenSlot → Type 0

@@ -13,23 +13,22 @@ ghost use Rattle.pct_model.specs.ChoiceTable.{choices_at, running_choices, endin
 ghost use Rattle.pct_keys.specs.Tables.{Table, row_at};
 ghost use Rattle.pct_threads.specs.Slots.{Slot};
 ghost use Rattle.pct_threads.specs.Tables.{is_occupied_at, next_id_at};
-ghost use Rattle.pct_transitions.specs.Numbers.{IdsFit, NextKeysFit, NumbersFit};
-ghost use Rattle.pct_transitions.specs.Contexts.{IsContext, IsEnvironment, IsWhole};
+ghost use Rattle.pct_step_context.specs.Numbers.{IdsFit, NextKeysFit, NumbersFit};
+ghost use Rattle.pct_step_context.specs.Contexts.{IsContext, IsEnvironment, IsWhole};
 ghost use Rattle.pct_transitions.specs.Listed.{listed, statement_choices, requested_choices, AreWithin, HasRowFor};
-ghost use Rattle.pct_transitions.specs.OtherThreads.{ids_on};
+ghost use Rattle.pct_step_context.specs.OtherThreads.{ids_on};
 ghost use Rattle.pct_transitions.specs.declared.choice_table.Choices.TheVariants as choices;
-ghost use Rattle.pct_transitions.specs.Positions.{next_at};
+ghost use Rattle.pct_step_context.specs.Positions.{next_at};
 
-use crate::cancel_calls::{called_kind, may_pass_point};
-use crate::context::Context;
-use crate::current::{At, is_timed_next};
-use crate::mutex_calls::is_free_mutex;
-use crate::once_calls::{is_busy, once_at};
-use crate::sem_calls::count_of;
 use crate::stop_table::is_forbidden_in_child;
+use pct_ending_calls::cancel_calls::{called_kind, may_pass_point};
+use pct_ending_calls::mutex_calls::is_free_mutex;
 use pct_keys::{Keys, key_place};
 use pct_model::{Alt, Cause, MAX_KEYS, PointKind, Status, Stmt};
 use pct_set::SlotSet;
+use pct_statements::once_calls::{is_busy, once_at};
+use pct_statements::sem_calls::count_of;
+use pct_step_context::{At, Context, is_timed_next};
 use pct_threads::Threads;
 
 /// The choices of a thread, in their order. In a contract, `listed` is the list of them.
@@ -502,7 +501,7 @@ fn go_expire_or_act(go: bool, expire: bool, act: bool) -> Choices
 }
 
 // Whether the time of a wait at the next statement may expire.
-#[tactic(auto, using(crate::proofs::EnvironmentRead::timeouts_read))]
+#[tactic(auto, using(pct_step_context::proofs::EnvironmentRead::timeouts_read))]
 fn can_expire(context: &Context) -> bool
     ensures { (environment : Environment) → IsEnvironment context.now environment → result ≡ can_expire environment (next_at context.now.position.next) }
 {

@@ -11,17 +11,15 @@ ghost use Rattle.pct_model.specs.ChoiceTable.{is_timed_wait};
 ghost use Rattle.pct_model.specs.Formats.{has_timeouts};
 ghost use Rattle.pct_engine_laws.specs.SeenSteps.{environment_in};
 ghost use Rattle.pct_process.specs.ProcessViews.{thread_on_slot};
-ghost use Rattle.pct_transitions.specs.Positions.{next_at};
-ghost use Rattle.pct_transitions.specs.ThreadRecords.{IsRecord};
+ghost use Rattle.pct_step_context.specs.Positions.{next_at};
+ghost use Rattle.pct_step_context.specs.ThreadRecords.{IsRecord};
 
-use crate::current::{At, is_timed_next, next_of};
-use crate::mutex_calls::is_free_mutex;
-use crate::once_calls::once_at;
-use crate::other_threads::ended_value;
-use crate::program::Program;
-use crate::sem_calls::count_of;
+use pct_ending_calls::mutex_calls::is_free_mutex;
 use pct_model::OnceState;
 use pct_process::ProcessState;
+use pct_statements::once_calls::once_at;
+use pct_statements::sem_calls::count_of;
+use pct_step_context::{At, Program, ended_value, is_timed_next, next_of};
 use pct_threads::{Steps, Thread as ThreadRecord};
 use std::sync::ledger::Ledger;
 

@@ -9,18 +9,16 @@ ghost use Rattle.pct_process.specs.FamilyViews.{other_processes};
 ghost use Rattle.pct_process.specs.ProcessViews.{thread_on_slot};
 ghost use Rattle.pct_transitions.specs.Readiness.{now_or, leaves_acts, running_when, is_met, ready_when};
 
-use crate::cancel_calls::may_pass_point;
-use crate::context::Surroundings;
-use crate::current::At;
-use crate::once_calls::is_busy;
 use crate::process_reads::{
     count_in, has_ended, is_unowned, may_expire, next_on, once_in, record_of,
 };
-use crate::program::Program;
 use crate::stop_table::is_fork_kind;
 use pct_cancel::Cancel;
+use pct_ending_calls::cancel_calls::may_pass_point;
 use pct_model::{Cause, FrameKind, Status, Stmt};
 use pct_process::ProcessState;
+use pct_statements::once_calls::is_busy;
+use pct_step_context::{At, Program, Surroundings};
 use pct_threads::Steps;
 use std::sync::ledger::Ledger;
 

@@ -11,18 +11,16 @@ ghost use Rattle.pct_model.specs.Environment.{Environment, names_no_thread, is_d
 ghost use Rattle.pct_model.specs.MutexCalls.{owns};
 ghost use Rattle.pct_model.specs.Keys.{key_with};
 ghost use Rattle.pct_model.specs.StopTable.{stop_at, stops_of, first_stop, is_stack_full, has_begun_to_end, exits_twice, closes_function, is_handler_kind, is_in_handler, is_allowed_asynchronously, is_safe_point, is_inner_kind, is_fork_kind, is_allowed_in_child, is_forbidden_in_child};
-ghost use Rattle.pct_transitions.specs.Contexts.{IsContext, IsWhole, IsEnvironment};
+ghost use Rattle.pct_step_context.specs.Contexts.{IsContext, IsWhole, IsEnvironment};
 
-use crate::context::Context;
-use crate::current::{At, value_of};
-use crate::mutex_calls::owns;
-use crate::once_calls::{is_fresh, once_at};
-use crate::program::Program;
+use pct_ending_calls::mutex_calls::owns;
 use pct_keys::Keys;
 use pct_model::{
     CLOSE_POINT, FrameKind, MAX_FRAMES, MAX_HANDLERS, OPEN_POINT, PAUSE_POINT, READ_POINT, Reason,
     SLEEP_POINT, Stmt, WRITE_POINT, Why,
 };
+use pct_statements::once_calls::{is_fresh, once_at};
+use pct_step_context::{At, Context, Program, value_of};
 use pct_threads::{FrameRef, Frames};
 
 /// The stop of a running thread at this statement of its top frame: whether its process may execute the statement is tested first, then
@@ -109,7 +107,7 @@ fn own_stop(context: &Context, at: &At) -> Option<Why>
 }
 
 // The stop of pthread_join for the thread with an id.
-#[tactic(auto, using(crate::proofs::EnvironmentRead::none_named, crate::proofs::EnvironmentRead::detached_named))]
+#[tactic(auto, using(pct_step_context::proofs::EnvironmentRead::none_named, pct_step_context::proofs::EnvironmentRead::detached_named))]
 #[inline(always)]
 fn stop_of_join(context: &Context, id: u32) -> Option<Why>
     requires { IsWhole context.now }
@@ -126,7 +124,7 @@ fn stop_of_join(context: &Context, id: u32) -> Option<Why>
 }
 
 // The stop of pthread_detach of the thread with an id.
-#[tactic(auto, using(crate::proofs::EnvironmentRead::none_named, crate::proofs::EnvironmentRead::detached_named))]
+#[tactic(auto, using(pct_step_context::proofs::EnvironmentRead::none_named, pct_step_context::proofs::EnvironmentRead::detached_named))]
 #[inline(always)]
 fn stop_of_detach(context: &Context, id: u32) -> Option<Why>
     requires { IsWhole context.now }
@@ -142,7 +140,7 @@ fn stop_of_detach(context: &Context, id: u32) -> Option<Why>
 }
 
 // The stop of a call that names the thread with an id.
-#[tactic(auto, using(crate::proofs::EnvironmentRead::none_named))]
+#[tactic(auto, using(pct_step_context::proofs::EnvironmentRead::none_named))]
 #[inline(always)]
 fn stop_of_request(context: &Context, id: u32) -> Option<Why>
     requires { IsWhole context.now }

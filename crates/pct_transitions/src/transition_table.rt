@@ -9,39 +9,42 @@ ghost use Rattle.pct_model.specs.Environment.{Environment};
 ghost use Rattle.pct_model.specs.StopTable.{stop_at};
 ghost use Rattle.pct_model.specs.NextStatement.{next_of, body_at};
 ghost use Rattle.pct_model.specs.TransitionTable.{acts_or, transition_at, stops_or, runs};
-ghost use Rattle.pct_transitions.specs.Contexts.{IsContext, IsWhole};
-ghost use Rattle.pct_transitions.specs.Positions.{IsAt};
+ghost use Rattle.pct_step_context.specs.Contexts.{IsContext, IsWhole};
+ghost use Rattle.pct_step_context.specs.Positions.{IsAt};
 ghost use Rattle.pct_engine_laws.specs.Fitting.{TransitionFits};
 
-use crate::cancel_calls::{
+use crate::stop_table::stop_at;
+use pct_ending_calls::cancel_calls::{
     acts_on_request, calls_point, passes_point, requests, sets_mode, sets_state, tests_cancel,
 };
-use crate::cleanup_handlers::{pops, pushes};
-use crate::cond_calls::{begins_wait, broadcasts, expires, reacquires, signals_by};
-use crate::context::Context;
-use crate::current::{At, next_pc, value_of, variable_value};
-use crate::fork_calls::{
+use pct_ending_calls::cleanup_handlers::{pops, pushes};
+use pct_ending_calls::cond_calls::{begins_wait, broadcasts, expires, reacquires, signals_by};
+use pct_ending_calls::fork_calls::{
     AtForkCall, begins_fork, begins_waitpid, goes_on_forking, registers_fork, waits_at,
 };
-use crate::key_calls::{KeyCreateCall, creates_key_by, deletes_key, gets_specific, sets_specific};
-use crate::mutex_calls::{locks, unlocks};
-use crate::once_calls::{OnceCall, calls_once, once_at};
-use crate::process_exit::{
-    ends_now, exits, goes_on_exiting, may_register, registers_if, returns_by,
-};
-use crate::script_statements::{
-    adds, after_block, after_test, calls, emits, ends_block, jumps, sets,
-};
-use crate::sem_calls::{begins_sem_wait, count_of, ends_sem_wait, posts};
-use crate::stop_table::stop_at;
-use crate::thread_calls::{CreateCall, begins_join, creates_by, detaches, gets_self, joins_at};
-use crate::thread_ends::{ends_by_exit, goes_on_ending};
-use crate::transitions::{no_change, stops};
+use pct_ending_calls::mutex_calls::{locks, unlocks};
+use pct_ending_calls::thread_ends::{ends_by_exit, goes_on_ending};
+use pct_ending_calls::transitions::{no_change, stops};
 use pct_keys::key_place;
 use pct_model::{
     Alt, COND_TIMEDWAIT_POINT, COND_WAIT_POINT, ForkHandlers, SEM_TIMEDWAIT_POINT, SEM_WAIT_POINT,
     Status, Stmt, Transition,
 };
+use pct_statements::key_calls::{
+    KeyCreateCall, creates_key_by, deletes_key, gets_specific, sets_specific,
+};
+use pct_statements::once_calls::{OnceCall, calls_once, once_at};
+use pct_statements::process_exit::{
+    ends_now, exits, goes_on_exiting, may_register, registers_if, returns_by,
+};
+use pct_statements::script_statements::{
+    adds, after_block, after_test, calls, emits, ends_block, jumps, sets,
+};
+use pct_statements::sem_calls::{begins_sem_wait, count_of, ends_sem_wait, posts};
+use pct_statements::thread_calls::{
+    CreateCall, begins_join, creates_by, detaches, gets_self, joins_at,
+};
+use pct_step_context::{At, Context, next_pc, value_of, variable_value};
 
 /// Writes to `transition` what a thread in this context does by a choice. By `act` it acts upon a request. By every other choice
 /// it goes on: a running thread stops the run, or makes the transition of its next statement; one that is suspended at a
@@ -123,7 +126,7 @@ fn stops_or_runs(context: &Context, at: &At, choice: Alt, transition: &mut Trans
 }
 
 // What a running thread does at a statement that does not stop.
-#[tactic(auto, using(crate::proofs::Bodies::pc_within), unfolding(pct_model::specs::TransitionTable::runs))]
+#[tactic(auto, using(pct_step_context::proofs::Bodies::pc_within), unfolding(pct_model::specs::TransitionTable::runs))]
 fn runs(context: &Context, at: &At, choice: Alt, transition: &mut Transition)
     requires whole { IsWhole context.now }
     requires at { IsAt context.now.program.now.script at.now }

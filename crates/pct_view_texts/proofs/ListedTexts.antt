@@ -8,10 +8,10 @@ use Rattle.std.proofs.Common.{append_assoc, append-nil}
 use Rattle.std.proofs.lemmas.Grind.{flat_map-append}
 use Rattle.pct_engine_laws.specs.Seen.{SeenProcess, Seen, seen, family_in}
 use Rattle.pct_engine_laws.proofs.ListFacts.{flat_map_agree}
-use Rattle.pct_machine.specs.declared.process_view.ProcessView.{ProcessView}
-use Rattle.pct_machine.specs.ShownProcesses.{ShowsProcess, ShowsIfSome}
-use Rattle.pct_transitions.specs.ProcessSteps.{NewNumbersFit}
-use Rattle.pct_transitions.specs.Programs.{ProgramValue}
+use Rattle.pct_place.specs.declared.process_view.ProcessView.{ProcessView}
+use Rattle.pct_place.specs.ShownProcesses.{ShowsProcess, ShowsIfSome}
+use Rattle.pct_step_context.specs.Numbers.{NewNumbersFit}
+use Rattle.pct_step_context.specs.Programs.{ProgramValue}
 use Rattle.pct_view_laws.specs.Listed.{ListedThread, entry_by, entries_of, listed_threads}
 use Rattle.pct_view_laws.specs.SeenViews.{listed_process, listed_seen}
 use Rattle.pct_view_laws.proofs.ListedSeen.{listed_is_seen}

@@ -19,7 +19,7 @@ use Rattle.pct_model.specs.Formats.{is_timed}
 use Rattle.pct_model.specs.Keywords.{keyword_text}
 use Rattle.pct_model.specs.LineKinds.{syntax_of}
 use Rattle.pct_model.specs.Spells.{contents_of}
-use Rattle.pct_script.specs.StatementLines.{line_at}
+use Rattle.pct_script_lines.specs.StatementLines.{line_at}
 use Rattle.pct_view_laws.specs.declared.position.Position.{Position}
 use Rattle.pct_view_laws.specs.TracedSteps.{statement_on}
 use Rattle.pct_view_texts.specs.Fields.{Phrase}

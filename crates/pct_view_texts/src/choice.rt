@@ -7,9 +7,9 @@ ghost use Rattle.pct_model.specs.Report.{alt_words, entry_line};
 ghost use Rattle.pct_view_texts.specs.TextBuffers.{Appends};
 
 use crate::TextBuffer;
+use pct_event_texts::names::word;
 use pct_io::{Field, NoMemory};
 use pct_model::{Alt, Entry, Keyword};
-use pct_report::names::word;
 
 /// Appends a choice.
 #[tactic(auto, unfolding(pct_model::specs::Report::alt_words))]

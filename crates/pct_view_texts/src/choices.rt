@@ -4,12 +4,12 @@ ghost use Rattle.std.specs.Prelude.{◌≡◌, ◌<◌, ◌≤◌, true, [], ◌
 ghost use Rattle.std.specs.Option.{option_map_or};
 ghost use Rattle.pct_engine.specs.EngineStates.{IsRunOf};
 ghost use Rattle.pct_engine_laws.specs.Seen.{SeenProcess, seen};
-ghost use Rattle.pct_machine.specs.ShownProcesses.{ShowsProcess};
+ghost use Rattle.pct_place.specs.ShownProcesses.{ShowsProcess};
 ghost use Rattle.pct_model.specs.OtherProcesses.{Family};
 ghost use Rattle.pct_model.specs.Run.{Run};
 ghost use Rattle.pct_process.specs.ProcessViews.{thread_on_slot};
-ghost use Rattle.pct_transitions.specs.ProcessSteps.{NewNumbersFit};
-ghost use Rattle.pct_transitions.specs.Programs.{ProgramValue};
+ghost use Rattle.pct_step_context.specs.Numbers.{NewNumbersFit};
+ghost use Rattle.pct_step_context.specs.Programs.{ProgramValue};
 ghost use Rattle.pct_view_laws.specs.Listed.{ListedThread};
 ghost use Rattle.pct_view_laws.specs.SeenViews.{listed_process, listed_seen};
 ghost use Rattle.pct_views.specs.ShownThreads.{ShowsThread, listed_at};
@@ -23,9 +23,9 @@ use crate::verdict::push_verdict;
 use crate::{Source, TextBuffer};
 use pct_engine::Engine;
 use pct_io::NoMemory;
-use pct_machine::ProcessView;
 use pct_model::{Alt, Entry, MAX_PROCESSES, Verdict};
-use pct_script::StatementLines;
+use pct_place::ProcessView;
+use pct_script_lines::StatementLines;
 use pct_views::{ThreadView, choice_count, choice_on, thread_on};
 use std::alloc::Global;
 

@@ -3,14 +3,14 @@
 ghost use Rattle.std.specs.Prelude.{◌++◌, map, codes};
 ghost use Rattle.std.specs.List.{flat_map};
 ghost use Rattle.pct_model.specs.EventTexts.{event_names, event_words};
-ghost use Rattle.pct_report.specs.EventFields.{words_of};
+ghost use Rattle.pct_event_texts.specs.EventFields.{words_of};
 ghost use Rattle.pct_view_texts.specs.Fields.{field_text, phrase_text};
 ghost use Rattle.pct_view_texts.specs.TextBuffers.{Appends};
 
 use crate::TextBuffer;
+use pct_event_texts::{Fields, fields_of_event};
 use pct_io::{Field, NoMemory};
 use pct_model::{Event, Script, What};
-use pct_report::{Fields, fields_of_event};
 
 /// Appends events, or `-` if there are none.
 #[tactic(auto, unfolding(crate::specs::Fields::field_text))]

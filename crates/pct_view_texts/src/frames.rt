@@ -10,9 +10,9 @@ ghost use Rattle.pct_view_texts.specs.TextBuffers.{Appends};
 use crate::TextBuffer;
 use crate::phrases::push_phrases;
 use crate::values::push_values;
+use pct_event_texts::names::func;
 use pct_io::NoMemory;
 use pct_model::Script;
-use pct_report::names::func;
 use pct_threads::{FrameRef, Frames};
 use std::alloc::Global;
 

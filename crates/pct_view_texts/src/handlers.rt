@@ -8,9 +8,9 @@ ghost use Rattle.pct_view_texts.specs.TextBuffers.{Appends};
 
 use crate::TextBuffer;
 use pct_cleanup::Handlers;
+use pct_event_texts::names::func;
 use pct_io::{Field, NoMemory};
 use pct_model::Script;
-use pct_report::names::func;
 
 /// Appends the handlers of a thread, newest first, or `-` if there are none.
 #[tactic(auto, unfolding(crate::specs::Fields::field_text))]

@@ -6,10 +6,10 @@ ghost use Rattle.pct_view_texts.specs.Positions.{is_timed_at, position_phrases, 
 ghost use Rattle.pct_view_texts.specs.TextBuffers.{Appends};
 
 use crate::{Source, TextBuffer};
+use pct_event_texts::names::func;
 use pct_io::{Failed, NoMemory};
 use pct_model::Script;
 use pct_printer::write_statement_words;
-use pct_report::names::func;
 use pct_views::Position;
 
 /// Appends the position of a thread, or `-` if it has no frames.

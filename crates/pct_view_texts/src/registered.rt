@@ -8,10 +8,10 @@ ghost use Rattle.pct_view_texts.specs.TextBuffers.{Appends};
 use crate::TextBuffer;
 use crate::phrases::{push_phrase, push_phrases};
 use crate::specific::func_or_dash;
+use pct_event_texts::names::func;
 use pct_io::{Field, NoMemory};
 use pct_model::{ForkHandlers, Name, OnceState, Script};
 use pct_process::{ExitFunctions, ProcessState};
-use pct_report::names::func;
 use std::alloc::Global;
 
 /// Appends a tab and the field of what a process with this id has registered, and of its once controls.

@@ -1,7 +1,7 @@
 //! A script with the lines of its text.
 
 use pct_model::Script;
-use pct_script::StatementLines;
+use pct_script_lines::StatementLines;
 
 /// A script, and the numbers of the lines of its text.
 #[derive(Clone, Copy)]

@@ -11,10 +11,10 @@ ghost use Rattle.pct_view_texts.specs.TextBuffers.{Appends};
 
 use crate::TextBuffer;
 use crate::phrases::{push_phrase, push_phrases};
+use pct_event_texts::names::func;
 use pct_io::{Field, NoMemory};
 use pct_keys::Keys;
 use pct_model::{MAX_KEYS, Script};
-use pct_report::names::func;
 use std::alloc::Global;
 
 /// Appends a tab and the field of the keys of a process.

@@ -4,11 +4,11 @@ ghost use Rattle.std.specs.Prelude.{◌≡◌, ◌<◌, ◌≤◌, [], filter, f
 ghost use Rattle.std.specs.Option.{option_map_or};
 ghost use Rattle.pct_engine.specs.EngineStates.{IsRunOf};
 ghost use Rattle.pct_engine_laws.specs.Seen.{SeenProcess, seen, threads_on};
-ghost use Rattle.pct_machine.specs.ShownProcesses.{ShowsProcess};
+ghost use Rattle.pct_place.specs.ShownProcesses.{ShowsProcess};
 ghost use Rattle.pct_model.specs.OtherProcesses.{Family};
 ghost use Rattle.pct_model.specs.Run.{Run};
 ghost use Rattle.pct_process.specs.ProcessViews.{slot_on};
-ghost use Rattle.pct_transitions.specs.Programs.{ProgramValue};
+ghost use Rattle.pct_step_context.specs.Programs.{ProgramValue};
 ghost use Rattle.pct_view_laws.specs.Listed.{is_unended};
 ghost use Rattle.pct_view_laws.specs.ListedProcesses.{ListedProcess, processes_seen};
 ghost use Rattle.pct_view_texts.specs.TextBuffers.{text_in, Appends};
@@ -20,10 +20,10 @@ use crate::verdict::push_verdict;
 use crate::{Source, TextBuffer};
 use pct_engine::Engine;
 use pct_io::NoMemory;
-use pct_machine::ProcessView;
 use pct_model::MAX_PROCESSES;
+use pct_place::ProcessView;
 use pct_process::ProcessState;
-use pct_script::StatementLines;
+use pct_script_lines::StatementLines;
 use pct_views::state_on;
 use std::alloc::Global;
 

@@ -12,9 +12,9 @@ ghost use Rattle.pct_view_texts.specs.Trace.{start_phrases};
 
 use crate::position::{is_timed_at, push_position};
 use crate::{Source, TextBuffer};
+use pct_event_texts::names::{cond, keyword_of, mutex, point, sem, word};
 use pct_io::{Field, NoMemory};
 use pct_model::{Cause, Keyword, LineKind, Phase, Script, Status};
-use pct_report::names::{cond, keyword_of, mutex, point, sem, word};
 use pct_views::StepStart;
 
 /// Appends the status of a thread. `timed`: its next statement is a wait with a time.

@@ -14,9 +14,9 @@ use crate::position::{push_position, push_statement};
 use crate::wait::push_status_and_wait;
 use crate::{Source, TextBuffer};
 use pct_cancel::Cancel;
+use pct_event_texts::names::word;
 use pct_io::NoMemory;
 use pct_model::{Keyword, Mode, Script, State};
-use pct_report::names::word;
 use pct_views::ThreadView;
 
 /// Appends the line of a thread.

@@ -14,7 +14,7 @@ use crate::{Source, TextBuffer};
 use pct_engine::{Engine, NotLegal};
 use pct_io::NoMemory;
 use pct_model::Entry;
-use pct_script::StatementLines;
+use pct_script_lines::StatementLines;
 use pct_threads::Steps;
 use pct_views::start_of;
 use std::alloc::Global;

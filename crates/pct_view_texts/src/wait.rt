@@ -10,9 +10,9 @@ ghost use Rattle.pct_view_texts.specs.TextBuffers.{Appends};
 use crate::TextBuffer;
 use crate::position::is_timed_at;
 use crate::status::push_status;
+use pct_event_texts::names::{cond, mutex, once, sem};
 use pct_io::{Field, NoMemory};
 use pct_model::{Script, Status};
-use pct_report::names::{cond, mutex, once, sem};
 use pct_views::{ThreadView, Wait};
 
 /// Appends the status of a thread, and what it waits for, if it waits.

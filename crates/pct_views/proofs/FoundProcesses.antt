@@ -5,9 +5,9 @@ use Rattle.pct_names.proofs.Names.{refl, slice_get, slice_get_within, Some, suc,
 use Rattle.std.proofs.Common.{eq-eqb, ne_eqb}
 use Rattle.pct_engine_laws.specs.Seen.{SeenProcess, Seen, is_live_seen, family_in}
 use Rattle.pct_engine_laws.specs.SeenSteps.{thread_with}
-use Rattle.pct_transitions.specs.Programs.{ProgramValue}
-use Rattle.pct_machine.specs.declared.process_view.ProcessView.{ProcessView}
-use Rattle.pct_machine.specs.ShownProcesses.{ShowsProcess, ShowsIfSome}
+use Rattle.pct_step_context.specs.Programs.{ProgramValue}
+use Rattle.pct_place.specs.declared.process_view.ProcessView.{ProcessView}
+use Rattle.pct_place.specs.ShownProcesses.{ShowsProcess, ShowsIfSome}
 use Rattle.pct_view_laws.specs.SeenViews.{start_seen}
 use Rattle.pct_view_laws.specs.TracedSteps.{start_of}
 

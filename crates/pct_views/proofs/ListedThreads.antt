@@ -7,10 +7,10 @@ use Rattle.pct_engine_laws.specs.SeenSteps.{choices_in}
 use Rattle.pct_process.specs.FamilyViews.{other_processes}
 use Rattle.pct_process.specs.ProcessViews.{ProcessData, first_of, slot_on, thread_on_slot}
 use Rattle.pct_transitions.specs.ProcessSteps.{with_data}
-use Rattle.pct_transitions.specs.Programs.{ProgramValue}
-use Rattle.pct_machine.specs.ProcessSteps.{data_in}
-use Rattle.pct_machine.specs.ShownProcesses.{ShowsProcess}
-use Rattle.pct_machine.specs.declared.process_view.ProcessView.{ProcessView}
+use Rattle.pct_step_context.specs.Programs.{ProgramValue}
+use Rattle.pct_place.specs.ProcessSteps.{data_in}
+use Rattle.pct_place.specs.ShownProcesses.{ShowsProcess}
+use Rattle.pct_place.specs.declared.process_view.ProcessView.{ProcessView}
 use Rattle.pct_view_laws.specs.Listed.{ListedThread, is_unended}
 use Rattle.pct_view_laws.specs.SeenViews.{listed_in}
 use Rattle.pct_views.specs.ShownThreads.{listed_at}

@@ -8,7 +8,7 @@ use Rattle.pct_threads.specs.Tables.{held_at, place_at}
 use Rattle.pct_engine_laws.specs.Seen.{SeenSlot}
 use Rattle.pct_process.specs.ProcessViews.{slots_of, thread_on_slot}
 use Rattle.pct_process.proofs.ViewedSlots.{length-slots_of}
-use Rattle.pct_transitions.proofs.ProcessReads.{held_of}
+use Rattle.pct_step_context.proofs.ProcessReads.{held_of}
 use Rattle.pct_views.specs.declared.thread_state.ThreadState.{ThreadState}
 use Rattle.pct_views.specs.ShownStates.{ShowsState, ShowsOneState}
 

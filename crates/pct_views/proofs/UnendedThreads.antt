@@ -10,7 +10,7 @@ use Rattle.pct_engine_laws.specs.Seen.{SeenSlot}
 use Rattle.pct_process.specs.ThreadViews.{thread_of, threads_of, slot_view, with_specific}
 use Rattle.pct_process.specs.ProcessViews.{with_row, slots_of, slot_on}
 use Rattle.pct_process.proofs.ViewedSlots.{slot_here, thread_on_slot-is}
-use Rattle.pct_transitions.proofs.ProcessReads.{record_read}
+use Rattle.pct_step_context.proofs.ProcessReads.{record_read}
 use Rattle.pct_view_laws.specs.Listed.{is_unended}
 use Rattle.pct_views.specs.ShownThreads.{IsUnended}
 

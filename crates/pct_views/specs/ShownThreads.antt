@@ -5,8 +5,8 @@ use Rattle.pct_model.specs.OtherProcesses.{Family}
 use Rattle.pct_model.specs.World.{Thread}
 use Rattle.pct_process.specs.ProcessViews.{slot_on, thread_on_slot}
 use Rattle.pct_threads.specs.declared.record.Thread.{Thread as Record}
-use Rattle.pct_transitions.specs.Programs.{ProgramValue}
-use Rattle.pct_transitions.specs.ThreadRecords.{HasCancelability, IsRecord}
+use Rattle.pct_step_context.specs.Programs.{ProgramValue}
+use Rattle.pct_step_context.specs.ThreadRecords.{HasCancelability, IsRecord}
 use Rattle.pct_view_laws.specs.Listed.{ListedThread, is_unended}
 use Rattle.pct_view_laws.specs.SeenViews.{listed_on}
 use Rattle.pct_view_laws.specs.TracedSteps.{start_of}

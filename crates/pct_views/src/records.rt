@@ -4,7 +4,7 @@ ghost use Rattle.std.specs.Prelude.{◌≡◌, ◌<◌, true, is_some, Some};
 ghost use Rattle.pct_model.specs.World.{Thread};
 ghost use Rattle.pct_process.specs.ProcessViews.{thread_on_slot};
 ghost use Rattle.pct_threads.specs.Tables.{is_occupied_at, thread_at};
-ghost use Rattle.pct_transitions.specs.ThreadRecords.{IsRecord};
+ghost use Rattle.pct_step_context.specs.ThreadRecords.{IsRecord};
 
 use pct_process::ProcessState;
 use pct_threads::{Steps, Thread as ThreadRecord, Threads};

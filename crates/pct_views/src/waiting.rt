@@ -8,17 +8,17 @@ ghost use Rattle.pct_model.specs.Environment.{Environment};
 ghost use Rattle.pct_model.specs.World.{Thread};
 ghost use Rattle.pct_process.specs.FamilyViews.{other_processes};
 ghost use Rattle.pct_process.specs.ProcessViews.{thread_on_slot};
-ghost use Rattle.pct_transitions.specs.Positions.{next_at};
+ghost use Rattle.pct_step_context.specs.Positions.{next_at};
 ghost use Rattle.pct_transitions.specs.ProcessSteps.{with_data};
 ghost use Rattle.pct_model.specs.OnceCalls.{once_at};
 ghost use Rattle.pct_view_laws.specs.Waits.{mutex_wait, once_wait, wait_at, wait_by};
 
 use crate::records::record_on;
+use pct_ending_calls::cancel_calls::may_pass_point;
 use pct_model::{OnceState, Status, Stmt};
 use pct_process::ProcessState;
-use pct_transitions::{
-    At, Surroundings, count_in, has_choice, has_ended, is_unowned, may_pass_point, next_on, once_in,
-};
+use pct_step_context::{At, Surroundings};
+use pct_transitions::{count_in, has_choice, has_ended, is_unowned, next_on, once_in};
 use pct_view_laws::Wait;
 
 /// What the thread on a slot waits for.

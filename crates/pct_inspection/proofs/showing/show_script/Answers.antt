@@ -1,5 +1,5 @@
 use Rattle.pct_names.proofs.Names.{ap, refl, subst, ◌∙◌}
-use Rattle.pct_script.specs.StatementLines.{statement_lines}
+use Rattle.pct_script_lines.specs.StatementLines.{statement_lines}
 use Rattle.pct_view_texts.specs.TextBuffers.{text_in}
 use Rattle.pct_inspection.specs.declared.words.Inspection.TheVariants as inspection
 use Rattle.pct_inspection.specs.declared.words.View.{View}

@@ -1,5 +1,5 @@
 use Rattle.pct_names.proofs.Names.{◌<◌, arith, length}
-use Rattle.pct_machine.specs.ListChanges.{process_changed}
+use Rattle.pct_place.specs.ProcessSteps.{process_changed}
 use Rattle.pct_machine.proofs.KeptPlaces.{none_kept, one_kept}
 use Rattle.pct_machine.proofs.processes.keep_places.Goals.{then-change, else-change}
 use Rattle.pct_machine.proofs.processes.keep_places.Goals as goal

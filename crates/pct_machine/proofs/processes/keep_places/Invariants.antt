@@ -1,4 +1,4 @@
-use Rattle.pct_machine.specs.ListChanges.{process_changed}
+use Rattle.pct_place.specs.ProcessSteps.{process_changed}
 use Rattle.pct_machine.proofs.KeptPlaces.{IsKeptTo}
 use Rattle.pct_machine.proofs.processes.keep_places.Given as goal
 

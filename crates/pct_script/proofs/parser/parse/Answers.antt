@@ -1,5 +1,5 @@
 use Rattle.pct_names.proofs.Names.{err_from_is_err_and, sym, ◌∙◌}
-use Rattle.pct_script.specs.StoredContents.{contents_stored}
+use Rattle.pct_script_lines.specs.StoredContents.{contents_stored}
 use Rattle.pct_script.proofs.CheckOrder.{in_order, is_fault}
 use Rattle.pct_grammar.proofs.Scripts.{read_is_spelled, spells_one_script}
 use Rattle.pct_script.proofs.parser.parse.Goals as goal

@@ -1,7 +1,7 @@
 use Rattle.pct_names.proofs.Names.{ap, are_in_functions, arith, length, list_all, parsed_lines, same_Some, sym, ◌∙◌}
-use Rattle.pct_script.specs.SectionSteps.{is_ready}
+use Rattle.pct_script_lines.specs.SectionSteps.{is_ready}
 use Rattle.pct_script.proofs.CheckOrder.{is_checked}
-use Rattle.pct_script.proofs.LimitsMakeReady.{few_lines}
+use Rattle.pct_script_lines.proofs.LimitsMakeReady.{few_lines}
 use Rattle.pct_script.proofs.EmptyTexts.{spelled_unless}
 use Rattle.pct_script.proofs.parser.read_checked.Goals as goal
 

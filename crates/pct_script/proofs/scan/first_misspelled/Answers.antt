@@ -1,5 +1,5 @@
 use Rattle.pct_names.proofs.Names.{ap, spelling, sym, ◌∙◌}
-use Rattle.pct_script.proofs.SpelledLines.{misspelled_first, spelled_right, none_misspelled}
+use Rattle.pct_script_lines.proofs.TextSpelling.{misspelled_first, spelled_right, none_misspelled}
 use Rattle.pct_script.proofs.scan.first_misspelled.Goals as goal
 
 pub returns-in-Some-misspelled : goal.returns-in-Some-misspelled

@@ -5,7 +5,7 @@ use Rattle.atomic_table.specs.Table.{Me, Joins}
 use Rattle.pct_shared.specs.declared.view.Known.{Known}
 use Rattle.pct_shared.specs.declared.view.Opening.{Opening}
 use Rattle.pct_shared.specs.declared.view.View.{View}
-use Rattle.pct_shared.specs.declared.workers.Worker.{Worker}
+use Rattle.pct_shared.specs.declared.worker.Worker.{Worker}
 use Rattle.pct_shared.specs.TurnRule.{KeepsTurn, SeatView, Slot}
 use Rattle.pct_shared.specs.Views.{taken_in}
 use Rattle.pct_shared.proofs.Seats.{seat_with}

@@ -1,7 +1,7 @@
 use Rattle.pct_names.proofs.Names.{◌++◌, All, length, List, map, ◌≡◌}
 use Rattle.pct_shared.specs.declared.view.View.{View}
 use Rattle.pct_shared.specs.TurnSteps.{IsSeatOf}
-use Rattle.pct_shared.specs.declared.workers.Worker.{Worker}
+use Rattle.pct_shared.specs.declared.worker.Worker.{Worker}
 use Rattle.pct_shared.proofs.shared.join_passes.Given as goal
 
 -- the passes of the last workers are taken in

@@ -3,7 +3,7 @@ use Rattle.std.proofs.Common.{length-append}
 use Rattle.atomic_table.specs.Seated.{TableId}
 use Rattle.atomic_table.specs.Table.{Me}
 use Rattle.pct_shared.specs.declared.view.Opening.{Opening}
-use Rattle.pct_shared.specs.declared.workers.Worker.{Worker}
+use Rattle.pct_shared.specs.declared.worker.Worker.{Worker}
 use Rattle.pct_shared.specs.Hosts.{IsNewWorker}
 use Rattle.pct_shared.specs.TurnRule.{SeatView, Slot}
 use Rattle.pct_shared.specs.Views.{new_view, next_view}

@@ -1,5 +1,5 @@
 use Rattle.pct_names.proofs.Names.{◌-◌, ◌<◌, [], length, slice_get, Some, suc, vec_capacity, ℕ, ◌≡◌, ◌≤◌}
-use Rattle.pct_shared.specs.declared.workers.Worker.{Worker}
+use Rattle.pct_shared.specs.declared.worker.Worker.{Worker}
 use Rattle.pct_shared.specs.Hosts.{IsNewWorker}
 use Rattle.pct_shared.specs.Views.{new_view}
 use Rattle.pct_shared.proofs.shared.make_workers.Given as goal

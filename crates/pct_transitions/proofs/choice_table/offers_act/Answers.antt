@@ -1,7 +1,7 @@
 use Rattle.pct_names.proofs.Names.{Alt, ap, map, offers, same_choice, sym, ◌∙◌}
 use Rattle.pct_model.specs.declared.schedule.Alt.TheVariants as alt
 use Rattle.pct_engine_laws.proofs.ListFacts.{any-map}
-use Rattle.pct_transitions.specs.OtherThreads.{ids_on}
+use Rattle.pct_step_context.specs.OtherThreads.{ids_on}
 use Rattle.pct_transitions.proofs.ListedChoices.{never_act, none_offered}
 use Rattle.pct_transitions.proofs.choice_table.offers_act.Goals as goal
 

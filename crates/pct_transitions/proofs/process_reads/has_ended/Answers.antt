@@ -2,9 +2,9 @@ use Rattle.pct_names.proofs.Names.{ap, exit_value_of, false, is_ended_thread, is
 use Rattle.pct_names.proofs.Names.{Thread, ℕ, ◌∙◌, ◌≡◌}
 use Rattle.pct_engine_laws.specs.SeenSteps.{environment_in}
 use Rattle.pct_process.specs.ProcessViews.{ProcessData}
-use Rattle.pct_transitions.specs.OtherThreads.{ended_value}
-use Rattle.pct_transitions.proofs.StandingsRead.{small_slot}
-use Rattle.pct_transitions.proofs.EnvironmentRead.{has_ended, named_read}
+use Rattle.pct_step_context.specs.OtherThreads.{ended_value}
+use Rattle.pct_step_context.proofs.StandingsRead.{small_slot}
+use Rattle.pct_step_context.proofs.EnvironmentRead.{has_ended, named_read}
 use Rattle.pct_transitions.proofs.process_reads.has_ended.Goals as goal
 
 pub standing-requires : goal.standing-requires

@@ -1,7 +1,7 @@
 use Rattle.pct_names.proofs.Names.{ap, Frame, is_some, List, next_of, slice_get, Some, subst, sym, true, ◌∙◌, ◌≡◌}
 use Rattle.pct_process.specs.ProcessViews.{thread_on_slot, ProcessData}
-use Rattle.pct_transitions.specs.Programs.{ProgramValue}
-use Rattle.pct_transitions.proofs.ProcessReads.{occupied_by, frames_read}
+use Rattle.pct_step_context.specs.Programs.{ProgramValue}
+use Rattle.pct_step_context.proofs.ProcessReads.{occupied_by, frames_read}
 use Rattle.pct_transitions.proofs.process_reads.next_on.Goals as goal
 
 pub top_frame-requires : goal.top_frame-requires

@@ -1,6 +1,6 @@
 use Rattle.pct_names.proofs.Names.{is_some, Some, subst, sym, true, ◌≡◌}
 use Rattle.pct_process.specs.ProcessViews.{thread_on_slot, ProcessData}
-use Rattle.pct_transitions.proofs.ProcessReads.{occupied_by, record_read}
+use Rattle.pct_step_context.proofs.ProcessReads.{occupied_by, record_read}
 use Rattle.pct_transitions.proofs.process_reads.record_of.Goals as goal
 
 pub read-requires : goal.read-requires

@@ -1,7 +1,7 @@
 use Rattle.pct_names.proofs.Names.{acts_or, ap, body_at, choices_at, has_timeouts, item_at, length, next_of, sym, transition_at, ◌∙◌}
 use Rattle.pct_engine_laws.specs.SeenSteps.{environment_in}
 use Rattle.pct_process.specs.FamilyViews.{other_processes}
-use Rattle.pct_transitions.specs.Programs.{ProgramValue}
+use Rattle.pct_step_context.specs.Programs.{ProgramValue}
 use Rattle.pct_transitions.proofs.NumberedChoices.{numbered_offered}
 use Rattle.pct_transitions.proofs.process_steps.transition_by_number.Goals as goal
 

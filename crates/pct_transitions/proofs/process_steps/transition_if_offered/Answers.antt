@@ -2,7 +2,7 @@ use Rattle.pct_names.proofs.Names.{acts_or, Alt, ap, body_at, choices_at, false�
 use Rattle.pct_names.proofs.Names.{transition_at, ◌∙◌}
 use Rattle.pct_engine_laws.specs.SeenSteps.{environment_in}
 use Rattle.pct_process.specs.FamilyViews.{other_processes}
-use Rattle.pct_transitions.specs.Programs.{ProgramValue}
+use Rattle.pct_step_context.specs.Programs.{ProgramValue}
 use Rattle.pct_transitions.proofs.process_steps.transition_if_offered.Goals as goal
 
 pub returns-then-not-offers-clause-taken : goal.returns-then-not-offers-clause-taken

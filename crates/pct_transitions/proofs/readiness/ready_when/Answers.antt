@@ -4,9 +4,9 @@ use Rattle.pct_model.specs.declared.state.Status.TheVariants as status
 use Rattle.pct_process.specs.ProcessViews.{ProcessData}
 use Rattle.pct_threads.specs.declared.record.Thread.{Thread as Record}
 use Rattle.pct_transitions.specs.declared.readiness.ReadyWhen.TheVariants as ready
-use Rattle.pct_transitions.specs.Positions.{next_at}
+use Rattle.pct_step_context.specs.Positions.{next_at}
 use Rattle.pct_transitions.specs.Readiness.{now_or, running_when, ready_at, ready_when}
-use Rattle.pct_transitions.specs.ThreadRecords.{IsRecord}
+use Rattle.pct_step_context.specs.ThreadRecords.{IsRecord}
 use Rattle.pct_transitions.proofs.readiness.ready_when.Goals as goal
 
 module _ (script : Script) (timeouts restricted : Bool) (kept : Record) (t : Thread) (is : IsRecord kept t) where

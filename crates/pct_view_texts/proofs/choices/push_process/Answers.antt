@@ -1,6 +1,6 @@
 use Rattle.pct_names.proofs.Names.{flat_map, List, slice_get}
 use Rattle.pct_engine_laws.specs.Seen.{Seen, seen}
-use Rattle.pct_transitions.specs.Programs.{ProgramValue}
+use Rattle.pct_step_context.specs.Programs.{ProgramValue}
 use Rattle.pct_view_laws.specs.Listed.{ListedThread}
 use Rattle.pct_view_texts.specs.ListedLines.{lines_by}
 use Rattle.pct_view_texts.specs.TextBuffers.{Appends}

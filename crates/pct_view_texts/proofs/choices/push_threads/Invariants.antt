@@ -1,7 +1,7 @@
 use Rattle.pct_names.proofs.Names.{◌++◌, [], Family, flat_map, if◌then◌else◌, is_some, take, ◌≡◌}
 use Rattle.pct_engine_laws.specs.Seen.{SeenProcess}
-use Rattle.pct_machine.specs.ShownProcesses.{ShowsProcess}
-use Rattle.pct_transitions.specs.Programs.{ProgramValue}
+use Rattle.pct_place.specs.ShownProcesses.{ShowsProcess}
+use Rattle.pct_step_context.specs.Programs.{ProgramValue}
 use Rattle.pct_view_laws.specs.SeenViews.{listed_on}
 use Rattle.pct_view_texts.specs.ListedLines.{lines_by}
 use Rattle.pct_view_texts.specs.TextBuffers.{text_in}

@@ -2,7 +2,7 @@ use Rattle.pct_names.proofs.Names.{ap, length, option_map, slice_get, ◌∙◌}
 use Rattle.pct_engine_laws.specs.Seen.{Seen, seen, family_in}
 use Rattle.pct_engine_laws.specs.SeenSteps.{thread_with}
 use Rattle.pct_process.specs.ProcessViews.{ProcessData}
-use Rattle.pct_transitions.specs.Programs.{ProgramValue}
+use Rattle.pct_step_context.specs.Programs.{ProgramValue}
 use Rattle.pct_view_laws.specs.TracedSteps.{start_of}
 use Rattle.pct_views.proofs.FoundProcesses.{none_shown, one_shown, none_found, found_here, later, live_by, other_by, over_by, starts_nowhere, starts_in}
 use Rattle.pct_views.proofs.start.start_kept.Goals.{else-process-entry-via-then-process-entry+else-not-process, else-process-entry-via-else-process-entry}

@@ -1,6 +1,6 @@
 use Rattle.pct_names.proofs.Names.{ap, Frame, is_some, List, option_map, slice_get, Some, subst, sym, true, ◌∙◌, ◌≡◌}
 use Rattle.pct_process.specs.ProcessViews.{thread_on_slot, ProcessData}
-use Rattle.pct_transitions.proofs.ProcessReads.{occupied_by, frames_read}
+use Rattle.pct_step_context.proofs.ProcessReads.{occupied_by, frames_read}
 use Rattle.pct_view_laws.specs.TracedSteps.{position_in}
 use Rattle.pct_views.proofs.start.start_on.Goals as goal
 

@@ -1,6 +1,6 @@
 use Rattle.pct_names.proofs.Names.{◌<◌, ap, is_some, length, Some, subst, sym, true, ◌∙◌, ◌≡◌}
 use Rattle.pct_process.specs.ProcessViews.{thread_on_slot, ProcessData}
-use Rattle.pct_transitions.proofs.ProcessReads.{occupied_by, frames_read}
+use Rattle.pct_step_context.proofs.ProcessReads.{occupied_by, frames_read}
 use Rattle.pct_view_laws.specs.declared.position.StepStart.{StepStart}
 use Rattle.pct_views.proofs.ThreadStates.{detached_read, id_is, row_read, row_within}
 use Rattle.pct_views.proofs.thread_state.state_of.Goals as goal

@@ -1,7 +1,7 @@
 use Rattle.pct_names.proofs.Names.{Alt, ap, List, slice_get, ◌∙◌}
 use Rattle.pct_process.specs.ProcessViews.{thread_on_slot}
 use Rattle.pct_view_laws.specs.Listed.{ListedThread}
-use Rattle.pct_machine.proofs.StepsOfProcess.{thread_of}
+use Rattle.pct_place.proofs.StepsOfProcess.{thread_of}
 use Rattle.pct_views.proofs.ListedThreads.{choices_are, listed_alone}
 use Rattle.pct_views.proofs.thread_view.choice_on.Goals as goal
 

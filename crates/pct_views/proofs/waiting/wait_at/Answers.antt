@@ -1,6 +1,6 @@
 use Rattle.pct_names.proofs.Names.{ap, Option, StatementIn, Stmt, sym, ◌∙◌}
-use Rattle.pct_transitions.specs.declared.current.At.{At}
-use Rattle.pct_transitions.specs.Positions.{next_at}
+use Rattle.pct_step_context.specs.declared.current.At.{At}
+use Rattle.pct_step_context.specs.Positions.{next_at}
 use Rattle.pct_view_laws.specs.Waits.{wait_at}
 use Rattle.pct_views.proofs.Waits.{nothing_elsewhere}
 use Rattle.pct_views.proofs.waiting.wait_at.Goals as goal

@@ -4,7 +4,7 @@ use Rattle.pct_engine_laws.specs.SeenSteps.{choices_in, environment_in}
 use Rattle.pct_process.specs.FamilyViews.{other_processes}
 use Rattle.pct_process.specs.ProcessViews.{ProcessData}
 use Rattle.pct_transitions.specs.ProcessSteps.{with_data}
-use Rattle.pct_transitions.specs.Programs.{ProgramValue}
+use Rattle.pct_step_context.specs.Programs.{ProgramValue}
 use Rattle.pct_view_laws.specs.declared.wait.Wait.{Wait}
 use Rattle.pct_view_laws.specs.declared.wait.Wait.TheVariants as wait
 use Rattle.pct_view_laws.specs.Waits.{wait_at, wait_by, wait_in}

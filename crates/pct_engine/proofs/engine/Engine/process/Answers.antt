@@ -1,6 +1,6 @@
 use Rattle.pct_names.proofs.Names.{length, Run, slice_get, subst, ◌≤◌}
 use Rattle.pct_engine_laws.specs.Seen.{Seen, seen}
-use Rattle.pct_machine.specs.ShownProcesses.{ShowsIfSome}
+use Rattle.pct_place.specs.ShownProcesses.{ShowsIfSome}
 use Rattle.pct_engine.specs.EngineStates.{EngineValue, IsRunOf}
 use Rattle.pct_engine.proofs.EngineChoices.{state_after}
 use Rattle.pct_engine.proofs.ReachedStates.{stands_can_step}

@@ -1,7 +1,7 @@
 use Rattle.pct_names.proofs.Names.{◌<◌, ap, arith, Entry, has_timeouts, IfSome, length, length-map, List, option_map, ProcessAction}
 use Rattle.pct_names.proofs.Names.{Option, Script, slice_get, subst, sym, Transition, ℕ, ◌∙◌, ◌≡◌}
 use Rattle.pct_set.specs.Slots.{slots_where}
-use Rattle.pct_transitions.specs.Programs.{ProgramValue}
+use Rattle.pct_step_context.specs.Programs.{ProgramValue}
 use Rattle.pct_ready_sets.specs.ReadyConditions.{FollowAll, touches}
 use Rattle.pct_ready_sets.specs.ReadyGroups.{ReadyValue, with_stale}
 use Rattle.pct_machine.specs.Places.{ProcessList}

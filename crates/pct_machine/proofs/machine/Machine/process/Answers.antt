@@ -1,10 +1,10 @@
 use Rattle.pct_names.proofs.Names.{ap, Family, slice_get, Some, subst, sym, ℕ, ◌∙◌, ◌≡◌}
 use Rattle.pct_engine_laws.specs.Seen.{Seen, SeenProcess, family_in}
 use Rattle.pct_process.specs.FamilyViews.{other_processes}
-use Rattle.pct_transitions.specs.Programs.{ProgramValue}
-use Rattle.pct_machine.specs.declared.process_view.ProcessView.{ProcessView}
-use Rattle.pct_machine.specs.ProcessSteps.{CanStep}
-use Rattle.pct_machine.specs.ShownProcesses.{ShowsProcess, ShowsIfSome}
+use Rattle.pct_step_context.specs.Programs.{ProgramValue}
+use Rattle.pct_place.specs.declared.process_view.ProcessView.{ProcessView}
+use Rattle.pct_place.specs.ProcessSteps.{CanStep}
+use Rattle.pct_place.specs.ShownProcesses.{ShowsProcess, ShowsIfSome}
 use Rattle.pct_machine.proofs.ReadPlaces.{process_read}
 use Rattle.pct_machine.proofs.machine.Machine.process.Goals as goal
 

@@ -1,6 +1,6 @@
 use Rattle.pct_names.proofs.Names.{ap, None, opening, ◌∙◌}
 use Rattle.pct_engine_laws.specs.Seen.{seen}
-use Rattle.pct_transitions.specs.Programs.{ProgramValue}
+use Rattle.pct_step_context.specs.Programs.{ProgramValue}
 use Rattle.pct_machine.specs.Places.{ProcessList}
 use Rattle.pct_machine.proofs.machine.Machine.restart.Goals as goal
 

@@ -3,7 +3,7 @@ use Rattle.pct_names.proofs.Names.{true, ◌∙◌}
 use Rattle.std.proofs.Common.{eq-eqb, ne_eqb}
 use Rattle.pct_engine_laws.specs.Seen.{Seen, SeenProcess, family_in}
 use Rattle.pct_engine_laws.specs.SeenSteps.{has_ready_in}
-use Rattle.pct_transitions.specs.Programs.{ProgramValue}
+use Rattle.pct_step_context.specs.Programs.{ProgramValue}
 use Rattle.pct_machine.proofs.ReadyProcesses.{verdict_is}
 use Rattle.pct_machine.proofs.machine.Machine.verdict.Goals as goal
 

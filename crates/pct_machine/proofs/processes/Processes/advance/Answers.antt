@@ -4,15 +4,16 @@ use Rattle.pct_engine_laws.specs.Seen.{SeenProcess}
 use Rattle.pct_engine_laws.specs.SeenSteps.{candidate_in}
 use Rattle.pct_process.specs.FamilyViews.{other_processes}
 use Rattle.pct_process.specs.ProcessViews.{thread_on_slot}
-use Rattle.pct_transitions.specs.Programs.{ProgramValue}
+use Rattle.pct_step_context.specs.Programs.{ProgramValue}
+use Rattle.pct_place.specs.ProcessSteps.{CanStep, taken_in, process_after_entry}
+use Rattle.pct_place.proofs.StepsOfProcess.{thread_of}
 use Rattle.pct_machine.specs.Candidates.{candidate_on, IsSeat}
 use Rattle.pct_machine.specs.Places.{ProcessList, families}
-use Rattle.pct_machine.specs.ProcessSteps.{CanStep, EachCanStep, taken_in}
-use Rattle.pct_machine.specs.ListChanges.{process_after_entry, list_after_entry, taken_among}
+use Rattle.pct_machine.specs.ProcessSteps.{EachCanStep}
+use Rattle.pct_machine.specs.ListChanges.{list_after_entry, taken_among}
 use Rattle.pct_machine.proofs.LegalEntries.{chosen_takes}
 use Rattle.pct_machine.proofs.PlacesAfter.{on_seat, seat_found, sound_after_entry, places_after_entry}
 use Rattle.pct_machine.proofs.ReadyProcesses.{candidate_is}
-use Rattle.pct_machine.proofs.StepsOfProcess.{thread_of}
 use Rattle.pct_machine.proofs.processes.Processes.advance.Goals as goal
 
 pub advance-requires-clause-can : goal.advance-requires-clause-can

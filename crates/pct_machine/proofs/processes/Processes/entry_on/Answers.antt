@@ -1,8 +1,9 @@
 use Rattle.pct_names.proofs.Names.{ap, Family, find, IfSome, Some, subst, sym, true, ◌∙◌, ◌≡◌}
 use Rattle.pct_engine_laws.specs.Seen.{SeenProcess, is_live_seen}
 use Rattle.pct_process.specs.FamilyViews.{other_processes}
-use Rattle.pct_transitions.specs.Programs.{ProgramValue}
-use Rattle.pct_machine.specs.Candidates.{takes_in, IsSeat}
+use Rattle.pct_step_context.specs.Programs.{ProgramValue}
+use Rattle.pct_place.specs.ProcessSteps.{takes_in}
+use Rattle.pct_machine.specs.Candidates.{IsSeat}
 use Rattle.pct_machine.specs.Places.{ProcessList, families}
 use Rattle.pct_machine.proofs.LegalEntries.{taken_of_one}
 use Rattle.pct_machine.proofs.PlacesAfter.{seat_found}

@@ -1,9 +1,10 @@
 use Rattle.pct_names.proofs.Names.{◌+◌, ap, cond, Entry, Family, family_among, find, List, Relative, Some, subst, sym, ℕ, ◌∙◌, ◌≡◌, ◌≤◌}
 use Rattle.pct_engine_laws.specs.Seen.{SeenProcess, process_seen, is_live_seen}
 use Rattle.pct_process.specs.FamilyViews.{other_processes}
-use Rattle.pct_transitions.specs.Programs.{ProgramValue}
+use Rattle.pct_step_context.specs.Programs.{ProgramValue}
+use Rattle.pct_place.specs.ProcessSteps.{CanStep, taken_in}
 use Rattle.pct_machine.specs.Places.{ProcessList, families}
-use Rattle.pct_machine.specs.ProcessSteps.{CanStep, EachCanStep, taken_in}
+use Rattle.pct_machine.specs.ProcessSteps.{EachCanStep}
 use Rattle.pct_machine.specs.ListChanges.{list_moved}
 use Rattle.pct_machine.proofs.LegalEntries.{found_in, none_taken, taken_by}
 use Rattle.pct_machine.proofs.WokenThreads.{woken_found}

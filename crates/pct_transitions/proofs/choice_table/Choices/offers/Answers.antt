@@ -5,7 +5,7 @@ use Rattle.pct_threads.specs.Tables.{next_id_at}
 use Rattle.pct_transitions.specs.Listed.{listed}
 use Rattle.pct_transitions.specs.declared.choice_table.Choices.{Choices}
 use Rattle.pct_engine_laws.proofs.ListFacts.{any-map}
-use Rattle.pct_transitions.specs.OtherThreads.{ids_on}
+use Rattle.pct_step_context.specs.OtherThreads.{ids_on}
 use Rattle.pct_transitions.proofs.ListedChoices.{never_new, never_pick, never_dtor, none_offered}
 use Rattle.pct_transitions.proofs.choice_table.Choices.offers.Goals as goal
 

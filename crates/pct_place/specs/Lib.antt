@@ -1,0 +1,2 @@
+pub mod ProcessSteps
+pub mod ShownProcesses

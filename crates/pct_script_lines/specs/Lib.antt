@@ -1,0 +1,11 @@
+pub mod Fault
+pub mod SpelledLines
+pub mod DeclaredNames
+pub mod SectionSteps
+pub mod DeclaredBefore
+pub mod Outlines
+pub mod LineCounts
+pub mod Symbols
+pub mod UnknownNames
+pub mod StoredContents
+pub mod StatementLines

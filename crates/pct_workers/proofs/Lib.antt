@@ -1,0 +1,5 @@
+pub mod Working
+pub mod RisingNumbers
+pub mod LongerChoices
+pub mod LoneRuns
+pub mod WorkedRuns
