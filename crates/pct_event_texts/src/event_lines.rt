@@ -20,26 +20,26 @@ pub fn prepend_event(script: &Script, event: &Event, buffer: &mut [u8], end: usi
     ensures { Prepends buffer.old buffer.new end (line_text (event_line script.now event.now)) result }
 {
     match event.what {
-        What::Emit(value) => number_event(event, b" emit ", value, buffer, end),
-        What::Acquired(m) => name_event(event, b" acquire ", mutex_name(script, m), buffer, end),
-        What::Released(m) => name_event(event, b" release ", mutex_name(script, m), buffer, end),
-        What::Called(index) => name_event(event, b" call ", point_name(index), buffer, end),
-        What::Done(index) => name_event(event, b" done ", point_name(index), buffer, end),
-        What::Pushed(f, a) => pair_event(event, b" push ", (func_name(script, f), a), buffer, end),
+        What::Emit(value) => number_event(event, (b" emit ", value), buffer, end),
+        What::Acquired(m) => name_event(event, (b" acquire ", mutex_name(script, m)), buffer, end),
+        What::Released(m) => name_event(event, (b" release ", mutex_name(script, m)), buffer, end),
+        What::Called(index) => name_event(event, (b" call ", point_name(index)), buffer, end),
+        What::Done(index) => name_event(event, (b" done ", point_name(index)), buffer, end),
+        What::Pushed(f, a) => pair_event(event, (b" push ", func_name(script, f), a), buffer, end),
         What::Signalled(c, id) => {
-            pair_event(event, b" signal ", (cond_name(script, c), id), buffer, end)
+            pair_event(event, (b" signal ", cond_name(script, c), id), buffer, end)
         }
         What::Popped { f, a, run } => {
             let last = text_if(run, Keyword::Run, Keyword::Drop);
-            pop_event(event, func_name(script, f), (a, last), buffer, end)
+            pop_event(event, (func_name(script, f), a, last), buffer, end)
         }
         What::Created { id, detached } => {
             let kind = text_if(detached, Keyword::Detached, Keyword::Joinable);
             create_event(event, (id, kind), buffer, end)
         }
-        What::Joined(id, value) => join_event(event, id, value, buffer, end),
-        What::EndingExit(value) => number_event(event, b" ending exit ", value, buffer, end),
-        What::EndedWith(value) => number_event(event, b" ended ", value, buffer, end),
+        What::Joined(id, value) => join_event(event, (id, value), buffer, end),
+        What::EndingExit(value) => number_event(event, (b" ending exit ", value), buffer, end),
+        What::EndedWith(value) => number_event(event, (b" ended ", value), buffer, end),
         _ => prepend_words(
             Field::Dotted(event.pid, event.tid),
             fields_of_event(script, event.what),
@@ -51,50 +51,37 @@ pub fn prepend_event(script: &Script, event: &Event, buffer: &mut [u8], end: usi
 
 // Writes the line of an event: its thread, the word and the name, as `prepend` writes a text.
 #[inline(always)]
-fn name_event(
-    event: &Event,
-    word: &[u8],
-    name: &[u8],
-    buffer: &mut [u8],
-    end: usize,
-) -> Option<usize>
+fn name_event(event: &Event, words: (&[u8], &[u8]), buffer: &mut [u8], end: usize) -> Option<usize>
     requires { end ≤ length buffer.old }
-    ensures { Prepends buffer.old buffer.new end ((thread_text event.now.pid event.now.tid ++ (word.now ++ name.now)) ++ 10 ∷ []) result }
+    ensures { Prepends buffer.old buffer.new end ((thread_text event.now.pid event.now.tid ++ (words.entry.0.now ++ words.entry.1.now)) ++ 10 ∷ []) result }
 {
-    let words = name_line(word, name, buffer, end)?;
-    prepend_thread(event, buffer, words)
+    let start = name_line(words.0, words.1, buffer, end)?;
+    prepend_thread(event, buffer, start)
 }
 
 // Writes the line of an event: its thread, the word and the number, as `prepend` writes a text.
 #[inline(always)]
-fn number_event(
-    event: &Event,
-    word: &[u8],
-    number: u32,
-    buffer: &mut [u8],
-    end: usize,
-) -> Option<usize>
+fn number_event(event: &Event, words: (&[u8], u32), buffer: &mut [u8], end: usize) -> Option<usize>
     requires { end ≤ length buffer.old }
-    ensures { Prepends buffer.old buffer.new end ((thread_text event.now.pid event.now.tid ++ (word.now ++ decimal number)) ++ 10 ∷ []) result }
+    ensures { Prepends buffer.old buffer.new end ((thread_text event.now.pid event.now.tid ++ (words.entry.0.now ++ decimal words.entry.1)) ++ 10 ∷ []) result }
 {
-    let words = number_line(word, number, buffer, end)?;
-    prepend_thread(event, buffer, words)
+    let start = number_line(words.0, words.1, buffer, end)?;
+    prepend_thread(event, buffer, start)
 }
 
 // Writes the line of an event: its thread, the word, the name and the number, as `prepend` writes a text.
 #[inline(always)]
 fn pair_event(
     event: &Event,
-    word: &[u8],
-    pair: (&[u8], u32),
+    words: (&[u8], &[u8], u32),
     buffer: &mut [u8],
     end: usize,
 ) -> Option<usize>
     requires { end ≤ length buffer.old }
-    ensures { Prepends buffer.old buffer.new end ((thread_text event.now.pid event.now.tid ++ (word.now ++ (pair.entry.0.now ++ 32 ∷ decimal pair.entry.1))) ++ 10 ∷ []) result }
+    ensures { Prepends buffer.old buffer.new end ((thread_text event.now.pid event.now.tid ++ (words.entry.0.now ++ (words.entry.1.now ++ 32 ∷ decimal words.entry.2))) ++ 10 ∷ []) result }
 {
-    let words = pair_line(word, pair, buffer, end)?;
-    prepend_thread(event, buffer, words)
+    let start = pair_line(words.0, (words.1, words.2), buffer, end)?;
+    prepend_thread(event, buffer, start)
 }
 
 // Writes the line of a pop: its thread, the name of the function, its argument and the last word, as `prepend` writes
@@ -102,38 +89,37 @@ fn pair_event(
 #[inline(always)]
 fn pop_event(
     event: &Event,
-    name: &[u8],
-    rest: (u32, &[u8]),
+    words: (&[u8], u32, &[u8]),
     buffer: &mut [u8],
     end: usize,
 ) -> Option<usize>
     requires { end ≤ length buffer.old }
-    ensures { Prepends buffer.old buffer.new end ((thread_text event.now.pid event.now.tid ++ (codes " pop " ++ (name.now ++ 32 ∷ (decimal rest.entry.0 ++ 32 ∷ rest.entry.1.now)))) ++ 10 ∷ []) result }
+    ensures { Prepends buffer.old buffer.new end ((thread_text event.now.pid event.now.tid ++ (codes " pop " ++ (words.entry.0.now ++ 32 ∷ (decimal words.entry.1 ++ 32 ∷ words.entry.2.now)))) ++ 10 ∷ []) result }
 {
-    let argument = kind_line(b" ", rest, buffer, end)?;
-    let words = name_after(b" pop ", name, buffer, argument)?;
-    prepend_thread(event, buffer, words)
+    let argument = kind_line(b" ", (words.1, words.2), buffer, end)?;
+    let start = name_after(b" pop ", words.0, buffer, argument)?;
+    prepend_thread(event, buffer, start)
 }
 
 // Writes the line of a creation: its thread, the number of the new thread and its kind, as `prepend` writes a text.
 #[inline(always)]
-fn create_event(event: &Event, pair: (u32, &[u8]), buffer: &mut [u8], end: usize) -> Option<usize>
+fn create_event(event: &Event, words: (u32, &[u8]), buffer: &mut [u8], end: usize) -> Option<usize>
     requires { end ≤ length buffer.old }
-    ensures { Prepends buffer.old buffer.new end ((thread_text event.now.pid event.now.tid ++ (codes " create " ++ (decimal pair.entry.0 ++ 32 ∷ pair.entry.1.now))) ++ 10 ∷ []) result }
+    ensures { Prepends buffer.old buffer.new end ((thread_text event.now.pid event.now.tid ++ (codes " create " ++ (decimal words.entry.0 ++ 32 ∷ words.entry.1.now))) ++ 10 ∷ []) result }
 {
-    let words = kind_line(b" create ", pair, buffer, end)?;
-    prepend_thread(event, buffer, words)
+    let start = kind_line(b" create ", words, buffer, end)?;
+    prepend_thread(event, buffer, start)
 }
 
 // Writes the line of a join: its thread, the number of the joined thread and its value, as `prepend` writes a text.
 #[inline(always)]
-fn join_event(event: &Event, id: u32, value: u32, buffer: &mut [u8], end: usize) -> Option<usize>
+fn join_event(event: &Event, words: (u32, u32), buffer: &mut [u8], end: usize) -> Option<usize>
     requires { end ≤ length buffer.old }
-    ensures { Prepends buffer.old buffer.new end ((thread_text event.now.pid event.now.tid ++ (codes " joined " ++ (decimal id ++ 32 ∷ decimal value))) ++ 10 ∷ []) result }
+    ensures { Prepends buffer.old buffer.new end ((thread_text event.now.pid event.now.tid ++ (codes " joined " ++ (decimal words.0 ++ 32 ∷ decimal words.1))) ++ 10 ∷ []) result }
 {
-    let last = number_line(b" ", value, buffer, end)?;
-    let words = number_after(b" joined ", id, buffer, last)?;
-    prepend_thread(event, buffer, words)
+    let last = number_line(b" ", words.1, buffer, end)?;
+    let start = number_after(b" joined ", words.0, buffer, last)?;
+    prepend_thread(event, buffer, start)
 }
 
 // Writes the process and the thread of an event, as `prepend` writes a text.
